@@ -16,7 +16,7 @@ use Rattle.dots_settings.specs.File.{AreFaultless}
 use Rattle.dots_settings.specs.declared.domains.DomainRow.{DomainRow}
 use Rattle.dots_settings.specs.Settings.{AreApart, domain_of, draft_prefixes}
 use Rattle.dots_settings.specs.Admitting.{AreDistinct}
-use Rattle.dots_settings.proofs.Drafts.{not_twice}
+use Rattle.dots_settings.proofs.Drafts.{both_false, not_twice}
 
 -- ---- tests
 
@@ -188,10 +188,6 @@ apart_pair before (scope ∷ scopes) are a b where_a in_b differ =
     by rest (inr (inr within)) (inr later) = rest a b (inr within) later differ
 
 -- ---- domains with their prefixes
-
-pub both_false : (a b : Bool) → (a || b) ≡ false → (a ≡ false) × (b ≡ false)
-both_false false b e = (refl, e)
-both_false true b e = absurd (true≢false e)
 
 some_same : {A : Type 0} (x y : A) → Some x ≡ Some y → x ≡ y
 some_same x y e = cc

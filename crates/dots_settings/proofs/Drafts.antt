@@ -1,15 +1,20 @@
 -- What the rows have said, one more row at a time.
-use Rattle.std.proofs.Common.{◌≡◌, ℕ, Bool, true, false, List, [], ◌∷◌, ◌++◌, Option, Some, None, is_some, refl, ap, ◌∙◌, append-nil, true≢false, if◌then◌else◌}
+use Rattle.std.proofs.Common.{◌≡◌, ℕ, Bool, true, false, ◌||◌, List, [], ◌∷◌, ◌++◌, Option, Some, None, is_some, refl, ap, ◌∙◌, append-nil, true≢false, if◌then◌else◌}
 use Rattle.std.proofs.lemmas.List.Elements.{filter_map-append}
 use Rattle.std.specs.List.{filter_map, cons_option, list_any}
 use Rattle.std.specs.Option.{option_or, option_to_list}
 use Rattle.dots_settings.specs.declared.fault.SettingsFault.TheVariants as fault
-use Rattle.dots_settings.specs.Form.{FormValue, domain_line, prefix_line, client_line, gateway_line, name_line, ceiling_line, indefinite_line, capacity_line, packet_line}
+use Rattle.dots_settings.specs.Form.{FormValue, domain_line, prefix_line, client_line, gateway_line, upstream_line, name_line, ceiling_line, indefinite_line, capacity_line, packet_line}
 use Rattle.dots_settings.specs.Row.{Row, row_of}
-use Rattle.dots_settings.specs.Draft.{DraftValue, same_name, draft_of, first_of, firsts_of, forms_by, domain_in, scope_in, peer_in, name_in, address_in, ceiling_in, indefinite_in, capacity_in, packet_in}
-use Rattle.dots_settings.specs.Faults.{fault_of, is_twice, is_unknown, overlap_of, overlap_or_limit, is_too_much}
+use Rattle.dots_settings.specs.Draft.{DraftValue, same_name, draft_of, first_of, firsts_of, forms_by, domain_in, scope_in, peer_in, upstream_in, name_in, address_in, ceiling_in, indefinite_in, capacity_in, packet_in}
+use Rattle.dots_settings.specs.Faults.{fault_of, has_peer, is_twice, is_unknown, overlap_of, overlap_or_limit, is_too_much}
 use Rattle.dots_settings.specs.Admitting.{admitted}
 use Rattle.dots_settings.proofs.HostNames.{firsts_then}
+
+-- two tests, neither of which holds
+pub both_false : (a b : Bool) → (a || b) ≡ false → (a ≡ false) × (b ≡ false)
+both_false false b e = (refl, e)
+both_false true b e = absurd (true≢false e)
 
 one_or_none : {A : Type 0} (o : Option A) → cons_option o [] ≡ option_to_list o
 one_or_none None = refl
@@ -47,6 +52,7 @@ grown draft row = record {
   domains = draft.domains ++ option_to_list (domain_in row.form);
   scopes = draft.scopes ++ option_to_list (scope_in row.number row.form);
   peers = draft.peers ++ option_to_list (peer_in row.form);
+  upstream = option_or draft.upstream (upstream_in row.form);
   names = names_with draft.names (name_in row.form);
   addresses = draft.addresses ++ option_to_list (address_in row.form);
   ceiling = option_or draft.ceiling (ceiling_in row.form);
@@ -60,6 +66,7 @@ draft_grown rows row = λ i. record {
   domains = more (λ row. domain_in row.form) rows row i;
   scopes = more (λ row. scope_in row.number row.form) rows row i;
   peers = more (λ row. peer_in row.form) rows row i;
+  upstream = upstream i;
   names = names i;
   addresses = more (λ row. address_in row.form) rows row i;
   ceiling = ceiling i;
@@ -70,6 +77,9 @@ draft_grown rows row = λ i. record {
   where
     names : firsts_of (forms_by name_in (rows ++ row ∷ [])) ≡ names_with (firsts_of (forms_by name_in rows)) (name_in row.form)
     names = ap firsts_of (more (λ row. name_in row.form) rows row) ∙ firsts_more (forms_by name_in rows) (name_in row.form)
+
+    upstream : first_of (forms_by upstream_in (rows ++ row ∷ [])) ≡ option_or (first_of (forms_by upstream_in rows)) (upstream_in row.form)
+    upstream = ap first_of (more (λ row. upstream_in row.form) rows row) ∙ first_more (forms_by upstream_in rows) (upstream_in row.form)
 
     ceiling : first_of (forms_by ceiling_in (rows ++ row ∷ [])) ≡ option_or (first_of (forms_by ceiling_in rows)) (ceiling_in row.form)
     ceiling = ap first_of (more (λ row. ceiling_in row.form) rows row) ∙ first_more (forms_by ceiling_in rows) (ceiling_in row.form)
@@ -90,6 +100,7 @@ grown_admitted draft number text (domain_line name) once = simp (append-nil, or_
 grown_admitted draft number text (prefix_line name value) once = simp (append-nil, or_none)
 grown_admitted draft number text (client_line peer name) once = simp (append-nil, or_none)
 grown_admitted draft number text (gateway_line peer) once = simp (append-nil, or_none)
+grown_admitted draft number text (upstream_line peer) once = simp (append-nil, or_none, or_new draft.upstream peer (both_false (is_some draft.upstream) (has_peer draft peer) once).0)
 grown_admitted draft number text (name_line fqdn value) once = simp (append-nil, or_none)
 grown_admitted draft number text (ceiling_line seconds) once = simp (append-nil, or_none, or_new draft.ceiling seconds once)
 grown_admitted draft number text (indefinite_line granted) once = simp (append-nil, or_none, or_new draft.indefinite granted once)

@@ -7,7 +7,7 @@ use Rattle.dots_settings.specs.declared.fault.SettingsFault.{SettingsFault}
 use Rattle.dots_settings.specs.declared.fault.SettingsFault.TheVariants as fault
 use Rattle.dots_settings.specs.Lines.{lines_of, content_of}
 use Rattle.dots_settings.specs.File.{Stand, HasFault, SettingsAre, SettingsFail, IsRefused, is_past}
-use Rattle.dots_settings.specs.Settings.{SettingsValue}
+use Rattle.dots_settings.specs.Settings.{SettingsValue, settings_of}
 
 small : (file : List ℕ) → length (content_of file) ≤ 2 ^ 16 + 1
 small file = omega (arith, length-take (2 ^ 16 + 1) file)
@@ -20,7 +20,7 @@ settings_of_file file settings are = record {
   rows = are.rows;
   stand = subst (λ (bytes : List ℕ). Stand (lines_of bytes) are.rows) (again file) are.stand;
   short = omega (arith, length-take (2 ^ 16 + 1) file, are.short);
-  given = are.given;
+  given = are.given ∙ ap (λ bytes. settings_of (length (lines_of bytes)) are.rows) (take_all (2 ^ 16 + 1) file (omega (arith, length-take (2 ^ 16 + 1) file, are.short)));
 }
 
 longer : (n m : ℕ) → m ≡ min (2 ^ 16 + 1) n → nat_lt (2 ^ 16) m ≡ nat_lt (2 ^ 16) n

@@ -15,8 +15,8 @@ use Rattle.dots_settings.specs.declared.peer.Role.TheVariants as role
 use Rattle.dots_settings.specs.Draft.{DraftValue, same_name}
 use Rattle.dots_settings.specs.Faults.{is_gateway}
 use Rattle.dots_settings.specs.declared.domains.DomainRow.{DomainRow}
-use Rattle.dots_settings.specs.Settings.{domain_of, draft_prefixes, draft_role, peer_row_of, name_row_of, draft_addresses, IsNoStranger, is_gateway_role}
-use Rattle.dots_settings.proofs.Whole.{IsWhole, IsDeclared, at_name, all_then}
+use Rattle.dots_settings.specs.Settings.{domain_of, draft_prefixes, draft_role, peer_row_of, name_row_of, draft_addresses, IsNoStranger, IsNoPeer, is_gateway_role}
+use Rattle.dots_settings.proofs.Whole.{IsWhole, IsApart, IsDeclared, at_name, all_then}
 
 pub mapped_length : {A B : Type 0} (f : A → B) (xs : List A) → length (map f xs) ≡ length xs
 mapped_length f [] = refl
@@ -95,6 +95,14 @@ no_strangers draft whole =
     mapped_all (peer_row_of draft) (λ (row : PeerRow). IsNoStranger row.role) draft.peers
     (all_then (λ (peer : Peer). IsDeclared draft.domains peer.domain) (λ (peer : Peer). IsNoStranger (draft_role draft peer.domain)) draft.peers (λ peer is. declared_placed draft peer.domain is)
     whole.peers.declared)
+
+any_mapped : {A B : Type 0} (f : A → B) (p : B → Bool) (xs : List A) → list_any p (map f xs) ≡ list_any (λ x. p (f x)) xs
+any_mapped f p [] = refl
+any_mapped f p (x ∷ xs) = ap (λ b. p (f x) || b) (any_mapped f p xs)
+
+pub upstream_apart : (draft : DraftValue) (upstream : Option ℕ) → IsApart draft.peers upstream → IsNoPeer (map (peer_row_of draft) draft.peers) upstream
+upstream_apart draft None apart = tt
+upstream_apart draft (Some upstream) apart = any_mapped (peer_row_of draft) (λ (row : PeerRow). row.peer == upstream) draft.peers ∙ apart
 
 -- ---- host names
 

@@ -117,7 +117,7 @@ no_settings_at_fault file settings why are fail = by (is_past file fail.behind) 
         no_fault_there fail.before fail.line fail.behind are.rows fail.rows why (subst (λ (lines : List (List ℕ)). Stand lines are.rows) fail.split are.stand) fail.stand at_fault
 
 pub one_settings : (file : List ℕ) (one other : SettingsValue) → SettingsAre file one → SettingsAre file other → one ≡ other
-one_settings file one other x y = x.given ∙ ap settings_of (rows_once 1 (lines_of (content_of file)) x.rows y.rows x.stand.read y.stand.read) ∙ sym y.given
+one_settings file one other x y = x.given ∙ ap (settings_of (length (lines_of file))) (rows_once 1 (lines_of (content_of file)) x.rows y.rows x.stand.read y.stand.read) ∙ sym y.given
 
 -- two places in a list: the same, or the one before the other
 data Places (before : List (List ℕ)) (line : List ℕ) (behind before' : List (List ℕ)) (line' : List ℕ) (behind' : List (List ℕ)) : Type 0 where
@@ -198,7 +198,7 @@ one_fault file one other x y = by (places x.before x.line x.behind y.before y.li
 neither_from : (file : List ℕ) → ((settings : SettingsValue) → SettingsAre file settings → ⊥) → ((why : SettingsFault) → SettingsFail file why → ⊥)
     → (rest lines : List (List ℕ)) (rows : List Row) → lines_of (content_of file) ≡ lines ++ rest → Stand lines rows → is_past file rest ≡ false → ⊥
 neither_from file none faultless [] lines rows split stand before =
-    none (settings_of rows) (record {
+    none (settings_of (length (lines_of file)) rows) (record {
       rows = rows;
       stand = subst (λ (xs : List (List ℕ)). Stand xs rows) (sym (split ∙ append-nil lines)) stand;
       short = not_long (length file) before;

@@ -14,7 +14,7 @@ use Rattle.dots_settings.specs.declared.mistake.Mistake.{Mistake}
 use Rattle.dots_settings.specs.declared.mistake.Mistake.TheVariants as mistake
 use Rattle.dots_settings.specs.Admitting.{IsNamed}
 use Rattle.dots_settings.specs.Capacity.{capacity_named, greatest_of}
-use Rattle.dots_settings.specs.Form.{FormValue, Says, is_domain_name, is_number, granted_in, prefix_mistake, unless, given, mapped, domain_form, prefix_form, client_form, gateway_form, name_form, ceiling_form, indefinite_form, capacity_of, capacity_form, packet_of, packet_form, form_by_word, form_of, domain_line, prefix_line, client_line, gateway_line, name_line, ceiling_line, indefinite_line, capacity_line, packet_line}
+use Rattle.dots_settings.specs.Form.{FormValue, Says, is_domain_name, is_number, granted_in, prefix_mistake, unless, given, mapped, domain_form, prefix_form, client_form, gateway_form, upstream_form, name_form, ceiling_form, indefinite_form, capacity_of, capacity_form, packet_of, packet_form, form_by_word, form_of, domain_line, prefix_line, client_line, gateway_line, upstream_line, name_line, ceiling_line, indefinite_line, capacity_line, packet_line}
 use Rattle.dots_settings.specs.Lines.{fields_of}
 use Rattle.dots_settings.specs.Settings.{IsInRange}
 
@@ -81,6 +81,11 @@ gateway_within [] = tt
 gateway_within (peer ∷ []) = given_within (number_in 0 4294967295 peer) mistake.Peer 1 (λ number. Ok (gateway_line number)) (λ number is. tt)
 gateway_within (a ∷ b ∷ rest) = tt
 
+upstream_within : (fields : List (List ℕ)) → IfOk (upstream_form fields) IsWithin
+upstream_within [] = tt
+upstream_within (peer ∷ []) = given_within (number_in 0 4294967295 peer) mistake.Peer 1 (λ number. Ok (upstream_line number)) (λ number is. tt)
+upstream_within (a ∷ b ∷ rest) = tt
+
 name_within : (fields : List (List ℕ)) → IfOk (name_form fields) IsWithin
 name_within [] = tt
 name_within (a ∷ []) = tt
@@ -133,7 +138,7 @@ packet_within (a ∷ b ∷ c ∷ d ∷ e ∷ f ∷ rest) = tt
 by_word : (word : List ℕ) (fields : List (List ℕ)) → IfOk (form_by_word word fields) IsWithin
 unfolding form_by_word
 by_word word fields =
-    search (if_within, domain_within, prefix_within, client_within, gateway_within, name_within, ceiling_within, indefinite_within, capacity_within, packet_within) depth 12
+    search (if_within, domain_within, prefix_within, client_within, gateway_within, upstream_within, name_within, ceiling_within, indefinite_within, capacity_within, packet_within) depth 13
 
 all_within : (fields : List (List ℕ)) → IfOk (form_of fields) IsWithin
 all_within [] = tt

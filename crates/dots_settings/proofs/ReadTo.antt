@@ -102,16 +102,23 @@ not_long : (content : List ℕ) → nat_lt (2 ^ 16) (length content) ≡ false �
 not_long content e = grind (arith, nat_tests)
 
 pub read_whole : (content rest digest : List ℕ) (taken : Taken) (settings : SettingsValue) (read : IsReadTo content rest taken) → length content ≤ 2 ^ 16 + 1 → lines_of rest ≡ []
-    → digest ≡ sha256 (digest_text read.rows) → settings ≡ settings_by (draft_value taken.draft) digest → SettingsAre content settings
+    → digest ≡ sha256 (digest_text read.rows) → settings ≡ settings_by (draft_value taken.draft) taken.number digest → SettingsAre content settings
 read_whole content rest digest taken settings read small none hashed given =
     let all : lines_of (content_of content) ≡ read.lines = ap lines_of (whole content small) ∙ read.split ∙ ap (λ xs. read.lines ++ xs) none ∙ append-nil read.lines in
+    let lines : taken.number ≡ length (lines_of content) = read.number ∙ ap length (sym (read.split ∙ ap (λ xs. read.lines ++ xs) none ∙ append-nil read.lines)) in
     let before : is_past content [] ≡ false = subst (λ (xs : List (List ℕ)). is_past content xs ≡ false) none read.before in
     record {
       rows = read.rows;
       stand = subst (λ (xs : List (List ℕ)). Stand xs read.rows) (sym all) read.has.stand;
       short = not_long content before;
-      given = given ∙ (λ i. settings_by (read.has.said i) (hashed i));
+      given = given ∙ (λ i. settings_by (read.has.said i) (lines i) (hashed i));
     }
+
+-- no more lines have been read than a file has bytes at most
+pub few_read : (content rest : List ℕ) (taken : Taken) → IsReadTo content rest taken → lines_of rest ≡ [] → taken.number ≤ 2 ^ 16
+few_read content rest taken read none =
+    let short = not_long content (subst (λ (xs : List (List ℕ)). is_past content xs ≡ false) none read.before) in
+    omega (arith, short, read.fits)
 
 pub some_left : (content rest : List ℕ) → 0 < length rest → is_past content (lines_of rest) ≡ false
 some_left content [] some = absurd (omega arith)

@@ -1,8 +1,8 @@
 -- What holds of all settings, as each line has its form and no fault.
-use Rattle.std.proofs.Common.{◌≡◌, ℕ, ◌+◌, ◌<◌, ◌≤◌, ◌==◌, Bool, true, false, cond, nat_lt, List, [], ◌∷◌, length, map, find, bytes_eq, unwrap_or, option_map, Option, Some, None, refl, sym, ap, subst, ◌∙◌, arith, lit≤}
+use Rattle.std.proofs.Common.{◌≡◌, ℕ, suc, ◌+◌, ◌^◌, ◌<◌, ◌≤◌, ◌==◌, Bool, true, false, cond, nat_lt, List, [], ◌∷◌, length, map, find, bytes_eq, unwrap_or, option_map, Option, Some, None, refl, sym, ap, subst, ◌∙◌, arith, lit≤}
 use Rattle.std.proofs.lemmas.Bool.Decides.{nat_tests}
 use Rattle.std.specs.Bool.{MatchBool}
-use Rattle.std.specs.List.{AllByRecursion, cons_option, position_or_len}
+use Rattle.std.specs.List.{AllByRecursion, cons_option, onto_first, position_or_len}
 use Rattle.dots_settings.specs.declared.capacity.Capacity.{Capacity}
 use Rattle.dots_settings.specs.declared.capacity.Capacity.TheVariants as capacity
 use Rattle.dots_settings.specs.declared.draft.Chosen.{Chosen}
@@ -18,7 +18,7 @@ use Rattle.dots_settings.specs.File.{IsSound, SettingsAre}
 use Rattle.dots_settings.specs.Settings.{SettingsValue, settings_by, digest_text, draft_role, peer_row_of, name_row_of, limits_of, domain_of, IsKnown, IsInRange, AreLimits, IsSettings, AreApart}
 use Rattle.dots_settings.proofs.OneForm.{IsWithin, says_within}
 use Rattle.dots_settings.proofs.Whole.{sound_whole}
-use Rattle.dots_settings.proofs.Finished.{mapped_length, domains_once, prefixes_few, gateways_few, peers_once, no_strangers, names_once, names_addressed}
+use Rattle.dots_settings.proofs.Finished.{mapped_length, domains_once, prefixes_few, gateways_few, peers_once, no_strangers, upstream_apart, names_once, names_addressed}
 use Rattle.dots_settings.proofs.Apart.{distinct_rows, few_rows, apart_rows, apart_domains}
 
 abbrev pub SaysItsForm : Row → Type 0
@@ -138,6 +138,21 @@ peers_known : (draft : DraftValue) (peers : List Peer) → AllByRecursion (λ ro
 peers_known draft [] = tt
 peers_known draft (peer ∷ peers) = (role_known draft peer.domain, peers_known draft peers)
 
+-- ---- the lines
+
+-- each line has a byte at least
+pub lines_few : (file : List ℕ) → length (lines_of file) ≤ length file
+lines_few [] = omega arith
+lines_few (byte ∷ bytes) = by (lines_few bytes) (byte == 10)
+  where
+    onto : (lines : List (List ℕ)) (n : ℕ) → length lines ≤ n → length (onto_first byte lines) ≤ suc n
+    onto [] n few = omega arith
+    onto (line ∷ lines) n few = omega (arith, few)
+
+    by : length (lines_of bytes) ≤ length bytes → (b : Bool) → length (cond b ([] ∷ lines_of bytes) (onto_first byte (lines_of bytes))) ≤ suc (length bytes)
+    by few true = omega (arith, few)
+    by few false = onto (lines_of bytes) (length bytes) few
+
 -- ---- together
 
 pub sound_few : (draft : DraftValue) → IsSound draft → length draft.domains ≤ 16
@@ -159,8 +174,8 @@ sound_limits draft (rows, lines, stand, is) =
     subst (λ (d : DraftValue). AreLimits (limits_of d)) (sym is)
     (all_in_range (draft_of rows) (all_of_part Chosen capacity_in (λ (chosen : Chosen). IsInRange chosen.what chosen.limit) said_capacity rows (rows_say 1 lines rows stand.read)))
 
-pub sound_settings : (draft : DraftValue) (digest : List ℕ) → IsSound draft → IsSettings (settings_by draft digest)
-sound_settings draft digest sound =
+pub sound_settings : (draft : DraftValue) (lines : ℕ) (digest : List ℕ) → IsSound draft → lines ≤ 2 ^ 16 → IsSettings (settings_by draft lines digest)
+sound_settings draft lines digest sound few =
     let whole = sound_whole draft sound in
     record {
       few = subst (λ (n : ℕ). n ≤ 16) (sym (mapped_length (domain_of draft) draft.domains)) (sound_few draft sound);
@@ -172,6 +187,7 @@ sound_settings draft digest sound =
       peer_once = peers_once draft whole;
       known = subst (λ (n : ℕ). AllByRecursion (λ row. IsKnown n row.role) (map (peer_row_of draft) draft.peers)) (sym (mapped_length (domain_of draft) draft.domains)) (peers_known draft draft.peers);
       no_stranger = no_strangers draft whole;
+      no_peer = upstream_apart draft draft.upstream whole.upstream;
       few_names = subst (λ (n : ℕ). n ≤ 64) (sym (mapped_length (name_row_of draft) draft.names)) whole.names.few;
       name_once = names_once draft whole;
       addresses = names_addressed draft whole;
@@ -179,9 +195,11 @@ sound_settings draft digest sound =
       most_ceiling = (sound_ceiling draft sound).1;
       limits = sound_limits draft sound;
       few_packets = whole.packets;
+      few_lines = few;
     }
 
 -- what a file gives
 pub given_settings : (file : List ℕ) (settings : SettingsValue) → SettingsAre file settings → IsSettings settings
 given_settings file settings are =
-    subst IsSettings (sym are.given) (sound_settings (draft_of are.rows) (sha256 (digest_text are.rows)) (are.rows, lines_of (content_of file), are.stand, refl))
+    subst IsSettings (sym are.given)
+    (sound_settings (draft_of are.rows) (length (lines_of file)) (sha256 (digest_text are.rows)) (are.rows, lines_of (content_of file), are.stand, refl) (omega (arith, lines_few file, are.short)))

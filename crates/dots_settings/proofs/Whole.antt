@@ -1,5 +1,5 @@
 -- No list of the rows so far is longer than it may be, and nothing stands in one twice.
-use Rattle.std.proofs.Common.{◌≡◌, ℕ, ◌+◌, ◌<◌, ◌≤◌, ◌==◌, Bool, true, false, cond, not, ◌||◌, nat_le, List, [], ◌∷◌, ◌++◌, length, map, filter, bytes_eq, Option, Some, None, refl, sym, ap, subst, ◌∙◌, append-nil, append_assoc, length-append, true≢false, arith, if◌then◌else◌}
+use Rattle.std.proofs.Common.{◌≡◌, ℕ, ◌+◌, ◌<◌, ◌≤◌, ◌==◌, Bool, true, false, cond, not, ◌||◌, nat_le, List, [], ◌∷◌, ◌++◌, length, map, filter, bytes_eq, Option, Some, None, is_some, refl, sym, ap, subst, ◌∙◌, append-nil, append_assoc, length-append, true≢false, arith, if◌then◌else◌}
 use Rattle.std.specs.Prelude.{count_by, ⊤}
 use Rattle.std.specs.Char.{to_ascii_lowercase}
 use Rattle.std.specs.List.{list_any, AllByRecursion}
@@ -10,15 +10,15 @@ use Rattle.dots_settings.specs.declared.draft.Address.{Address}
 use Rattle.dots_settings.specs.declared.draft.Peer.{Peer}
 use Rattle.dots_settings.specs.declared.draft.Scope.{Scope}
 use Rattle.dots_settings.specs.declared.fault.SettingsFault.TheVariants as fault
-use Rattle.dots_settings.specs.Form.{FormValue, domain_line, prefix_line, client_line, gateway_line, name_line, ceiling_line, indefinite_line, capacity_line, packet_line}
+use Rattle.dots_settings.specs.Form.{FormValue, domain_line, prefix_line, client_line, gateway_line, upstream_line, name_line, ceiling_line, indefinite_line, capacity_line, packet_line}
 use Rattle.dots_settings.specs.Row.{Row}
 use Rattle.dots_settings.specs.Draft.{DraftValue, draft_of, same_name}
-use Rattle.dots_settings.specs.Faults.{fault_of, is_gateway, is_twice, is_unknown, overlap_of, overlap_or_limit, is_too_much}
+use Rattle.dots_settings.specs.Faults.{fault_of, has_peer, is_gateway, is_upstream, is_twice, is_unknown, overlap_of, overlap_or_limit, is_too_much}
 use Rattle.dots_settings.specs.File.{AreFaultless, IsSound}
 use Rattle.dots_settings.specs.Admitting.{admitted}
-use Rattle.dots_settings.proofs.Drafts.{not_twice, draft_then}
+use Rattle.dots_settings.proofs.Drafts.{both_false, not_twice, draft_then}
 use Rattle.dots_settings.proofs.HostNames.{same_then}
-use Rattle.dots_settings.proofs.Apart.{equal_then, not_too_much, both_false}
+use Rattle.dots_settings.proofs.Apart.{equal_then, not_too_much}
 
 -- ---- counting
 
@@ -103,10 +103,16 @@ pub record AreNames (names : List (List ℕ)) (addresses : List Address) : Type 
   pub most : (name : List ℕ) → at_name name addresses ≤ 4
   pub told : (name : List ℕ) → list_any (same_name name) names ≡ nat_le 1 (at_name name addresses)
 
+-- none of the peers is the upstream
+abbrev pub IsApart : List Peer → Option ℕ → Type 0
+IsApart peers None = ⊤
+IsApart peers (Some upstream) = list_any (λ (peer : Peer). peer.number == upstream) peers ≡ false
+
 pub record IsWhole (draft : DraftValue) : Type 0 where
   pub domains : (name : List ℕ) → count_by (bytes_eq name) draft.domains ≤ 1
   pub scopes : (name : List ℕ) → count_by (λ (scope : Scope). bytes_eq scope.domain name) draft.scopes ≤ 16
   pub peers : ArePeers draft.domains draft.peers
+  pub upstream : IsApart draft.peers draft.upstream
   pub names : AreNames draft.names draft.addresses
   pub packets : length draft.packets ≤ 256
 
@@ -115,6 +121,7 @@ none_whole = record {
   domains = λ name. omega arith;
   scopes = λ name. omega arith;
   peers = record { few = omega arith; gateways = omega arith; once = λ number. omega arith; declared = tt };
+  upstream = tt;
   names = record { few = omega arith; once = λ name. omega arith; most = λ name. omega arith; told = λ name. refl };
   packets = omega arith;
 }
@@ -166,6 +173,10 @@ peer_then domains peers peer are none room gateways declared = record {
   once = peer_once peers peer none are.once;
   declared = all_push (λ (x : Peer). IsDeclared domains x.domain) peers peer are.declared declared;
 }
+
+apart_then : (peers : List Peer) (peer : Peer) (upstream : Option ℕ) → IsApart peers upstream → is_upstream upstream peer.number ≡ false → IsApart (peers ++ peer ∷ []) upstream
+apart_then peers peer None apart other = tt
+apart_then peers peer (Some upstream) apart other = any_push_no (λ (x : Peer). x.number == upstream) peers peer other ∙ apart
 
 -- names that are the same are so with all others
 same_counted : (one other : List ℕ) (names : List (List ℕ)) → same_name one other ≡ true → count_by (same_name one) names ≡ count_by (same_name other) names
@@ -234,6 +245,7 @@ whole_then draft line (domain_line name) whole none = record {
         all_then (λ (x : Peer). IsDeclared draft.domains x.domain) (λ (x : Peer). IsDeclared (draft.domains ++ name ∷ []) x.domain) draft.peers
         (λ x is. declared_then draft.domains name x.domain is) whole.peers.declared;
   };
+  upstream = whole.upstream;
   names = whole.names;
   packets = whole.packets;
 }
@@ -241,45 +253,61 @@ whole_then draft line (prefix_line name value) whole none = record {
   domains = whole.domains;
   scopes = scope_then draft.scopes (record { domain = name; prefix = value; line = line }) (not_too_much draft line (prefix_line name value) none) whole.scopes;
   peers = whole.peers;
+  upstream = whole.upstream;
   names = whole.names;
   packets = whole.packets;
 }
-whole_then draft line (client_line peer name) whole none = record {
-  domains = whole.domains;
-  scopes = whole.scopes;
-  peers =
-      peer_then draft.domains draft.peers (record { number = peer; domain = Some name }) whole.peers (not_twice draft line (client_line peer name) none)
-      (below 64 (length draft.peers) (not_too_much draft line (client_line peer name) none)) (λ is. absurd (true≢false (sym is)))
-      (turned (list_any (bytes_eq name) draft.domains) (not_unknown draft line (client_line peer name) none));
-  names = whole.names;
-  packets = whole.packets;
-}
+whole_then draft line (client_line peer name) whole none =
+    let new = both_false (has_peer draft peer) (is_upstream draft.upstream peer) (not_twice draft line (client_line peer name) none) in
+    record {
+      domains = whole.domains;
+      scopes = whole.scopes;
+      peers =
+          peer_then draft.domains draft.peers (record { number = peer; domain = Some name }) whole.peers new.0
+          (below 64 (length draft.peers) (not_too_much draft line (client_line peer name) none)) (λ is. absurd (true≢false (sym is)))
+          (turned (list_any (bytes_eq name) draft.domains) (not_unknown draft line (client_line peer name) none));
+      upstream = apart_then draft.peers (record { number = peer; domain = Some name }) draft.upstream whole.upstream new.1;
+      names = whole.names;
+      packets = whole.packets;
+    }
 whole_then draft line (gateway_line peer) whole none =
+    let new = both_false (has_peer draft peer) (is_upstream draft.upstream peer) (not_twice draft line (gateway_line peer) none) in
     let few = both_false (nat_le 64 (length draft.peers)) (nat_le 4 (count_by is_gateway draft.peers)) (not_too_much draft line (gateway_line peer) none) in
     record {
       domains = whole.domains;
       scopes = whole.scopes;
       peers =
-          peer_then draft.domains draft.peers (record { number = peer; domain = None }) whole.peers (not_twice draft line (gateway_line peer) none) (below 64 (length draft.peers) few.0)
+          peer_then draft.domains draft.peers (record { number = peer; domain = None }) whole.peers new.0 (below 64 (length draft.peers) few.0)
           (λ is. below 4 (count_by is_gateway draft.peers) few.1) tt;
+      upstream = apart_then draft.peers (record { number = peer; domain = None }) draft.upstream whole.upstream new.1;
       names = whole.names;
       packets = whole.packets;
     }
+whole_then draft line (upstream_line peer) whole none = record {
+  domains = whole.domains;
+  scopes = whole.scopes;
+  peers = whole.peers;
+  upstream = (both_false (is_some draft.upstream) (has_peer draft peer) (not_twice draft line (upstream_line peer) none)).1;
+  names = whole.names;
+  packets = whole.packets;
+}
 whole_then draft line (name_line fqdn value) whole none = record {
   domains = whole.domains;
   scopes = whole.scopes;
   peers = whole.peers;
+  upstream = whole.upstream;
   names = name_then draft.names draft.addresses (record { name = fqdn; prefix = value }) whole.names (not_too_much draft line (name_line fqdn value) none);
   packets = whole.packets;
 }
-whole_then draft line (ceiling_line seconds) whole none = record { domains = whole.domains; scopes = whole.scopes; peers = whole.peers; names = whole.names; packets = whole.packets }
-whole_then draft line (indefinite_line granted) whole none = record { domains = whole.domains; scopes = whole.scopes; peers = whole.peers; names = whole.names; packets = whole.packets }
-whole_then draft line (capacity_line what (Some limit)) whole none = record { domains = whole.domains; scopes = whole.scopes; peers = whole.peers; names = whole.names; packets = whole.packets }
+whole_then draft line (ceiling_line seconds) whole none = record { domains = whole.domains; scopes = whole.scopes; peers = whole.peers; upstream = whole.upstream; names = whole.names; packets = whole.packets }
+whole_then draft line (indefinite_line granted) whole none = record { domains = whole.domains; scopes = whole.scopes; peers = whole.peers; upstream = whole.upstream; names = whole.names; packets = whole.packets }
+whole_then draft line (capacity_line what (Some limit)) whole none = record { domains = whole.domains; scopes = whole.scopes; peers = whole.peers; upstream = whole.upstream; names = whole.names; packets = whole.packets }
 whole_then draft line (capacity_line what None) whole none = whole
 whole_then draft line (packet_line value) whole none = record {
   domains = whole.domains;
   scopes = whole.scopes;
   peers = whole.peers;
+  upstream = whole.upstream;
   names = whole.names;
   packets = omega (arith, length-append draft.packets (value ∷ []), below 256 (length draft.packets) (not_too_much draft line (packet_line value) none));
 }

@@ -6,7 +6,7 @@ use Rattle.dots_settings.specs.declared.form.Form.TheVariants as form
 use Rattle.dots_settings.specs.declared.complaint.Complaint.{Complaint}
 use Rattle.dots_settings.specs.declared.draft.Draft.{Draft}
 use Rattle.dots_lists.specs.Name.{is_name}
-use Rattle.dots_settings.specs.Form.{FormValue, domain_line, prefix_line, client_line, gateway_line, name_line, ceiling_line, indefinite_line, capacity_line, packet_line}
+use Rattle.dots_settings.specs.Form.{FormValue, domain_line, prefix_line, client_line, gateway_line, upstream_line, name_line, ceiling_line, indefinite_line, capacity_line, packet_line}
 use Rattle.dots_settings.specs.Draft.{DraftValue}
 use Rattle.dots_settings.specs.Faults.{has_name}
 
@@ -16,6 +16,7 @@ form_value (form.Domain name) = domain_line name.now
 form_value (form.Prefix name value) = prefix_line name.now value
 form_value (form.Client peer name) = client_line peer name.now
 form_value (form.Gateway peer) = gateway_line peer
+form_value (form.Upstream peer) = upstream_line peer
 form_value (form.Name fqdn value) = name_line fqdn.now value
 form_value (form.Ceiling seconds) = ceiling_line seconds
 form_value (form.Indefinite granted) = indefinite_line granted
@@ -31,6 +32,7 @@ draft_value draft = record {
   domains = draft.domains.items;
   scopes = draft.scopes.items;
   peers = draft.peers.items;
+  upstream = draft.upstream;
   names = draft.names.items;
   addresses = draft.addresses.items;
   ceiling = draft.ceiling;
@@ -50,6 +52,7 @@ admitted draft line (domain_line name) = record draft { domains = draft.domains 
 admitted draft line (prefix_line name value) = record draft { scopes = draft.scopes ++ record { domain = name; prefix = value; line = line } ∷ [] }
 admitted draft line (client_line peer name) = record draft { peers = draft.peers ++ record { number = peer; domain = Some name } ∷ [] }
 admitted draft line (gateway_line peer) = record draft { peers = draft.peers ++ record { number = peer; domain = None } ∷ [] }
+admitted draft line (upstream_line peer) = record draft { upstream = Some peer }
 admitted draft line (name_line fqdn value) = record draft {
   names = if has_name draft fqdn then draft.names else draft.names ++ fqdn ∷ [];
   addresses = draft.addresses ++ record { name = fqdn; prefix = value } ∷ [];

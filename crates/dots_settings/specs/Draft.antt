@@ -7,13 +7,14 @@ use Rattle.dots_settings.specs.declared.draft.Address.{Address}
 use Rattle.dots_settings.specs.declared.draft.Chosen.{Chosen}
 use Rattle.dots_settings.specs.declared.draft.Peer.{Peer}
 use Rattle.dots_settings.specs.declared.draft.Scope.{Scope}
-use Rattle.dots_settings.specs.Form.{FormValue, domain_line, prefix_line, client_line, gateway_line, name_line, ceiling_line, indefinite_line, capacity_line, packet_line}
+use Rattle.dots_settings.specs.Form.{FormValue, domain_line, prefix_line, client_line, gateway_line, upstream_line, name_line, ceiling_line, indefinite_line, capacity_line, packet_line}
 use Rattle.dots_settings.specs.Row.{Row}
 
 pub record DraftValue : Type 0 where
   pub domains : List (List ℕ)
   pub scopes : List Scope
   pub peers : List Peer
+  pub upstream : Option ℕ
   -- the host names, each with the spelling of its first line
   pub names : List (List ℕ)
   pub addresses : List Address
@@ -50,6 +51,10 @@ peer_in (client_line peer name) = Some (record { number = peer; domain = Some na
 peer_in (gateway_line peer) = Some (record { number = peer; domain = None })
 peer_in _ = None
 
+abbrev pub upstream_in : FormValue → Option ℕ
+upstream_in (upstream_line peer) = Some peer
+upstream_in _ = None
+
 abbrev pub name_in : FormValue → Option (List ℕ)
 name_in (name_line fqdn value) = Some fqdn
 name_in _ = None
@@ -84,6 +89,7 @@ draft_of rows = record {
   domains = forms_by domain_in rows;
   scopes = filter_map (λ row. scope_in row.number row.form) rows;
   peers = forms_by peer_in rows;
+  upstream = first_of (forms_by upstream_in rows);
   names = firsts_of (forms_by name_in rows);
   addresses = forms_by address_in rows;
   ceiling = first_of (forms_by ceiling_in rows);

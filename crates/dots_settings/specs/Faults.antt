@@ -8,7 +8,7 @@ use Rattle.dots_settings.specs.declared.fault.SettingsFault.{SettingsFault}
 use Rattle.dots_settings.specs.declared.fault.SettingsFault.TheVariants as fault
 use Rattle.dots_settings.specs.declared.capacity.Capacity.{Capacity}
 use Rattle.dots_settings.specs.Capacity.{same_capacity}
-use Rattle.dots_settings.specs.Form.{FormValue, domain_line, prefix_line, client_line, gateway_line, name_line, ceiling_line, indefinite_line, capacity_line, packet_line}
+use Rattle.dots_settings.specs.Form.{FormValue, domain_line, prefix_line, client_line, gateway_line, upstream_line, name_line, ceiling_line, indefinite_line, capacity_line, packet_line}
 use Rattle.dots_settings.specs.declared.draft.Peer.{Peer}
 use Rattle.dots_settings.specs.declared.draft.Scope.{Scope}
 use Rattle.dots_settings.specs.Draft.{DraftValue, same_name}
@@ -19,17 +19,26 @@ has_domain before name = list_any (bytes_eq name) before.domains
 abbrev pub has_peer : DraftValue → ℕ → Bool
 has_peer before number = list_any (λ peer. peer.number == number) before.peers
 
+abbrev pub is_upstream : Option ℕ → ℕ → Bool
+is_upstream None number = false
+is_upstream (Some upstream) number = number == upstream
+
+-- a client, a gateway or the upstream has this number
+abbrev pub is_declared : DraftValue → ℕ → Bool
+is_declared before number = has_peer before number || is_upstream before.upstream number
+
 abbrev pub has_capacity : DraftValue → Capacity → Bool
 has_capacity before what = list_any (λ chosen. same_capacity chosen.what what) before.capacities
 
 abbrev pub has_name : DraftValue → List ℕ → Bool
 has_name before fqdn = list_any (same_name fqdn) before.names
 
--- what the line gives stands already: a domain, a peer, the ceiling, whether -1 is granted, or one capacity
+-- what the line gives stands already: a domain, a peer, the upstream, the ceiling, whether -1 is granted, or one capacity
 abbrev pub is_twice : DraftValue → FormValue → Bool
 is_twice before (domain_line name) = has_domain before name
-is_twice before (client_line peer name) = has_peer before peer
-is_twice before (gateway_line peer) = has_peer before peer
+is_twice before (client_line peer name) = is_declared before peer
+is_twice before (gateway_line peer) = is_declared before peer
+is_twice before (upstream_line peer) = is_some before.upstream || has_peer before peer
 is_twice before (ceiling_line seconds) = is_some before.ceiling
 is_twice before (indefinite_line granted) = is_some before.indefinite
 is_twice before (capacity_line what limit) = has_capacity before what
@@ -60,6 +69,7 @@ is_too_much before (domain_line name) = nat_le 16 (length before.domains)
 is_too_much before (prefix_line name value) = nat_le 16 (count_by (λ scope. bytes_eq scope.domain name) before.scopes)
 is_too_much before (client_line peer name) = nat_le 64 (length before.peers)
 is_too_much before (gateway_line peer) = nat_le 64 (length before.peers) || nat_le 4 (count_by is_gateway before.peers)
+is_too_much before (upstream_line peer) = false
 is_too_much before (name_line fqdn value) = if has_name before fqdn
     then nat_le 4 (count_by (λ address. same_name fqdn address.name) before.addresses)
     else nat_le 64 (length before.names)

@@ -25,7 +25,7 @@ pub record SettingsAre (file : List ℕ) (settings : SettingsValue) : Type 0 whe
   pub rows : List Row
   pub stand : Stand (lines_of (content_of file)) rows
   pub short : length file ≤ 2 ^ 16
-  pub given : settings ≡ settings_of rows
+  pub given : settings ≡ settings_of (length (lines_of file)) rows
 
 -- the line, which has this number and follows these rows, has none of the forms, or has a fault as it follows them
 abbrev pub HasFault : List Row → ℕ → List ℕ → SettingsFault → Type 0

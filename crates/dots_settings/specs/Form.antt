@@ -1,4 +1,4 @@
--- What a line says: one of nine forms, or why it has none of them, by its fields from left to right.
+-- What a line says: one of ten forms, or why it has none of them, by its fields from left to right.
 use Rattle.std.specs.Prelude.{◌≡◌, ℕ, Bool, true, false, not, ◌==◌, ◌&&◌, ◌||◌, nat_le, if◌then◌else◌, List, [], ◌∷◌, length, codes, bytes_eq, Option, Some, None, Result, Ok, Err}
 use Rattle.std.specs.Char.{is_ascii_digit}
 use Rattle.std.specs.List.{list_all}
@@ -22,6 +22,7 @@ pub data FormValue : Type 0 where
   prefix_line : (name : List ℕ) → (value : PrefixValue) → FormValue
   client_line : (peer : ℕ) → (name : List ℕ) → FormValue
   gateway_line : (peer : ℕ) → FormValue
+  upstream_line : (peer : ℕ) → FormValue
   name_line : (fqdn : List ℕ) → (value : PrefixValue) → FormValue
   ceiling_line : (seconds : ℕ) → FormValue
   indefinite_line : (granted : Bool) → FormValue
@@ -110,6 +111,11 @@ abbrev pub gateway_form : List (List ℕ) → Result FormValue Complaint
 gateway_form (peer ∷ []) = given (number_in 0 4294967295 peer) mistake.Peer 1 (λ number. Ok (gateway_line number))
 gateway_form _ = Err (of_line mistake.GatewayFields)
 
+-- `upstream PEER`
+abbrev pub upstream_form : List (List ℕ) → Result FormValue Complaint
+upstream_form (peer ∷ []) = given (number_in 0 4294967295 peer) mistake.Peer 1 (λ number. Ok (upstream_line number))
+upstream_form _ = Err (of_line mistake.UpstreamFields)
+
 -- `name FQDN PREFIX`
 abbrev pub name_form : List (List ℕ) → Result FormValue Complaint
 name_form (fqdn ∷ text ∷ []) =
@@ -162,6 +168,7 @@ form_by_word word fields =
     else if bytes_eq word (codes "prefix") then prefix_form fields
     else if bytes_eq word (codes "client") then client_form fields
     else if bytes_eq word (codes "gateway") then gateway_form fields
+    else if bytes_eq word (codes "upstream") then upstream_form fields
     else if bytes_eq word (codes "name") then name_form fields
     else if bytes_eq word (codes "ceiling") then ceiling_form fields
     else if bytes_eq word (codes "indefinite") then indefinite_form fields

@@ -1,6 +1,6 @@
 -- The settings that the rows of a file give.
-use Rattle.std.specs.Prelude.{◌≡◌, ◌≢◌, ℕ, ◌<◌, ◌≤◌, ⊤, Bool, true, false, if◌then◌else◌, List, [], ◌∷◌, ◌++◌, length, map, filter, position, bytes_eq, count_by, ◌==◌, slice_get, unwrap_or, Option, Some, None, Contains}
-use Rattle.std.specs.List.{find, flat_map, AllByRecursion}
+use Rattle.std.specs.Prelude.{◌≡◌, ◌≢◌, ℕ, ◌<◌, ◌≤◌, ◌^◌, ⊤, Bool, true, false, if◌then◌else◌, List, [], ◌∷◌, ◌++◌, length, map, filter, position, bytes_eq, count_by, ◌==◌, slice_get, unwrap_or, Option, Some, None, Contains}
+use Rattle.std.specs.List.{find, flat_map, list_any, AllByRecursion}
 use Rattle.std.specs.Option.{option_map}
 use Rattle.sha2.specs.Sha256.{sha256}
 use Rattle.ip_scope.specs.Prefix.{PrefixValue, meets}
@@ -23,12 +23,16 @@ pub record SettingsValue : Type 0 where
   -- a domain has its place here as its number
   pub domains : List DomainRow
   pub peers : List PeerRow
+  -- the peer that a gateway asks; the server leaves it aside
+  pub upstream : Option ℕ
   pub names : List NameRow
   -- in seconds
   pub ceiling : ℕ
   pub indefinite : Bool
   pub limits : Limits
   pub packets : List Packet
+  -- how many lines the file has, those that are skipped too
+  pub lines : ℕ
   pub digest : List ℕ
 
 -- the prefixes of a domain, in the file's order
@@ -79,20 +83,23 @@ abbrev pub digest_text : List Row → List ℕ
 digest_text rows = flat_map hashed_of rows
 
 -- where no line says otherwise the ceiling is 86400 seconds, and -1 isn't granted
-abbrev pub settings_by : DraftValue → List ℕ → SettingsValue
-settings_by draft digest = record {
+abbrev pub settings_by : DraftValue → ℕ → List ℕ → SettingsValue
+settings_by draft lines digest = record {
   domains = map (domain_of draft) draft.domains;
   peers = map (peer_row_of draft) draft.peers;
+  upstream = draft.upstream;
   names = map (name_row_of draft) draft.names;
   ceiling = unwrap_or draft.ceiling 86400;
   indefinite = unwrap_or draft.indefinite false;
   limits = limits_of draft;
   packets = draft.packets;
+  lines = lines;
   digest = digest;
 }
 
-abbrev pub settings_of : List Row → SettingsValue
-settings_of rows = settings_by (draft_of rows) (sha256 (digest_text rows))
+-- those of so many lines, which have these rows
+abbrev pub settings_of : ℕ → List Row → SettingsValue
+settings_of lines rows = settings_by (draft_of rows) lines (sha256 (digest_text rows))
 
 -- ---- what holds of all settings
 
@@ -130,6 +137,11 @@ abbrev pub is_gateway_role : Role → Bool
 is_gateway_role role.Gateway = true
 is_gateway_role _ = false
 
+-- none of the clients and gateways is the upstream
+abbrev pub IsNoPeer : List PeerRow → Option ℕ → Type 0
+IsNoPeer peers None = ⊤
+IsNoPeer peers (Some upstream) = list_any (λ row. row.peer == upstream) peers ≡ false
+
 -- Every list is within its limit, and nothing stands in it twice; host names are the same whatever the case of their
 -- letters. The ceiling and the capacities are in their ranges.
 pub record IsSettings (settings : SettingsValue) : Type 0 where
@@ -142,6 +154,7 @@ pub record IsSettings (settings : SettingsValue) : Type 0 where
   pub peer_once : (peer : ℕ) → count_by (λ row. row.peer == peer) settings.peers ≤ 1
   pub known : AllByRecursion (λ row. IsKnown (length settings.domains) row.role) settings.peers
   pub no_stranger : AllByRecursion (λ row. IsNoStranger row.role) settings.peers
+  pub no_peer : IsNoPeer settings.peers settings.upstream
   pub few_names : length settings.names ≤ 64
   pub name_once : (fqdn : List ℕ) → count_by (λ row. same_name fqdn row.name) settings.names ≤ 1
   pub addresses : AllByRecursion (λ row. (1 ≤ length row.prefixes) × (length row.prefixes ≤ 4)) settings.names
@@ -149,3 +162,4 @@ pub record IsSettings (settings : SettingsValue) : Type 0 where
   pub most_ceiling : settings.ceiling ≤ 604800
   pub limits : AreLimits settings.limits
   pub few_packets : length settings.packets ≤ 256
+  pub few_lines : settings.lines ≤ 2 ^ 16

@@ -3,7 +3,7 @@ ghost use Rattle.dots_settings.specs.Form.{of_field, of_line};
 
 use crate::mistake::Mistake;
 
-/// Why a line has none of the nine forms, and the first field at fault, counted from 0, or None for the whole line.
+/// Why a line has none of the ten forms, and the first field at fault, counted from 0, or None for the whole line.
 #[derive(Clone, Copy)]
 pub struct Complaint {
     pub mistake: Mistake,

@@ -47,6 +47,7 @@ pub struct Draft {
     pub domains: Vec<Bytes>,
     pub scopes: Vec<Scope>,
     pub peers: Vec<Peer>,
+    pub upstream: Option<u32>,
     /// The host names, each with the spelling of its first line.
     pub names: Vec<Name>,
     pub addresses: Vec<Address>,
@@ -66,6 +67,7 @@ impl Draft {
             domains: Vec::new(alloc),
             scopes: Vec::new(alloc),
             peers: Vec::new(alloc),
+            upstream: None,
             names: Vec::new(alloc),
             addresses: Vec::new(alloc),
             ceiling: None,
@@ -85,6 +87,10 @@ impl Draft {
             Form::Prefix { name, prefix } => self.admit_prefix(*name, *prefix, line),
             Form::Client { peer, name } => self.admit_client(*peer, *name),
             Form::Gateway { peer } => self.admit_gateway(*peer),
+            Form::Upstream { peer } => {
+                self.upstream = Some(*peer);
+                Ok(())
+            }
             Form::Name { fqdn, prefix } => self.admit_address(*fqdn, *prefix),
             Form::Ceiling { seconds } => {
                 self.ceiling = Some(*seconds);

@@ -14,7 +14,7 @@ use std::fmt;
 pub enum SettingsFault {
     /// The line has none of the forms.
     Line { n: u32 },
-    /// What the line gives stands already: a domain, a peer, the ceiling, whether -1 is granted, or one capacity.
+    /// What the line gives stands already: a domain, a peer, the upstream, the ceiling, whether -1 is granted, or one capacity.
     Twice { n: u32 },
     /// The domain of the line isn't declared above it.
     Unknown { n: u32 },

@@ -1,6 +1,6 @@
 //! The settings that a draft comes to, once every line has been read.
 
-ghost use Rattle.std.specs.Prelude.{◌≡◌, ◌≤◌, length, map, filter, position, bytes_eq, IfOk};
+ghost use Rattle.std.specs.Prelude.{◌≡◌, ◌≤◌, ◌^◌, length, map, filter, position, bytes_eq, IfOk};
 ghost use Rattle.dots_settings.specs.Admitting.{draft_value};
 ghost use Rattle.dots_settings.specs.Draft.{same_name};
 ghost use Rattle.dots_settings.specs.File.{IsSound};
@@ -31,21 +31,24 @@ struct Rows {
 }
 
 impl Draft {
-    /// The settings, with this digest.
-    pub fn finish(self, digest: [u8; 32]) -> Result<Settings, NoMemory>
-        requires { IsSound (draft_value self) }
-        ensures { IfOk result (λ settings. settings ≡ settings_by (draft_value self) digest) }
+    /// The settings of a file of so many lines, with this digest.
+    pub fn finish(self, lines: u32, digest: [u8; 32]) -> Result<Settings, NoMemory>
+        requires sound { IsSound (draft_value self) }
+        requires few { lines ≤ 2 ^ 16 }
+        ensures { IfOk result (λ settings. settings ≡ settings_by (draft_value self) lines digest) }
     {
         let limits = self.make_limits();
         match self.make_rows() {
             Ok(rows) => Ok(Settings {
                 domains: rows.domains,
                 peers: rows.peers,
+                upstream: self.upstream,
                 names: rows.names,
                 ceiling: self.ceiling.unwrap_or(DEFAULT_CEILING),
                 indefinite: self.indefinite.unwrap_or(false),
                 limits,
                 packets: self.packets,
+                lines,
                 digest,
             }),
             Err(NoMemory) => {

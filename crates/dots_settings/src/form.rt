@@ -17,6 +17,8 @@ pub enum Form<'a> {
     Client { peer: u32, name: &'a [u8] },
     /// `gateway PEER`
     Gateway { peer: u32 },
+    /// `upstream PEER`
+    Upstream { peer: u32 },
     /// `name FQDN PREFIX`
     Name { fqdn: &'a [u8], prefix: Prefix },
     /// `ceiling SECONDS`, 1 to 604800

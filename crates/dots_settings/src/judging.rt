@@ -4,7 +4,7 @@ ghost use Rattle.std.specs.Prelude.{◌≡◌, nat_le, if◌then◌else◌, leng
 ghost use Rattle.std.specs.List.{find};
 ghost use Rattle.std.specs.Option.{option_map};
 ghost use Rattle.dots_settings.specs.Admitting.{draft_value, form_value};
-ghost use Rattle.dots_settings.specs.Faults.{has_domain, has_peer, has_capacity, has_name, is_twice, is_unknown, is_overlap, overlap_of, is_too_much, is_gateway, fault_of};
+ghost use Rattle.dots_settings.specs.Faults.{has_domain, has_peer, is_declared, has_capacity, has_name, is_twice, is_unknown, is_overlap, overlap_of, is_too_much, is_gateway, fault_of};
 ghost use Rattle.dots_settings.specs.Draft.{same_name};
 
 use crate::capacity::Capacity;
@@ -59,8 +59,9 @@ impl Draft {
     {
         match form {
             Form::Domain { name } => self.has_domain(*name),
-            Form::Client { peer, .. } => self.has_peer(*peer),
-            Form::Gateway { peer } => self.has_peer(*peer),
+            Form::Client { peer, .. } => self.is_declared(*peer),
+            Form::Gateway { peer } => self.is_declared(*peer),
+            Form::Upstream { peer } => self.upstream.is_some() || self.has_peer(*peer),
             Form::Ceiling { .. } => self.ceiling.is_some(),
             Form::Indefinite { .. } => self.indefinite.is_some(),
             Form::Capacity { what, .. } => self.has_capacity(*what),
@@ -110,6 +111,7 @@ impl Draft {
             Form::Gateway { .. } => {
                 self.peers.len() >= MAX_PEERS || self.count_gateways() >= MAX_GATEWAYS
             }
+            Form::Upstream { .. } => false,
             Form::Name { fqdn, .. } => self.has_many_names(*fqdn),
             Form::Ceiling { .. } => false,
             Form::Indefinite { .. } => false,
@@ -139,6 +141,16 @@ impl Draft {
         ensures { result ≡ has_peer (draft_value self.now) number }
     {
         self.peers.iter().any(|peer| peer.number == number)
+    }
+
+    /// Whether a client, a gateway or the upstream has this number.
+    fn is_declared(&self, number: u32) -> bool
+        ensures { result ≡ is_declared (draft_value self.now) number }
+    {
+        match self.upstream {
+            Some(upstream) => self.has_peer(number) || number == upstream,
+            None => self.has_peer(number),
+        }
     }
 
     fn has_capacity(&self, what: Capacity) -> bool

@@ -5,7 +5,7 @@
 //! [`Settings`] and its readers take no memory once they are made. [`read_form`] reads one line by its fields, and answers
 //! its [`Form`], or the [`Complaint`] that says why it has none.
 //!
-//! Contracts speak of the bytes of the file. Start reading at `specs/Form.antt`, which has the nine forms of a line, and why a line has none of them;
+//! Contracts speak of the bytes of the file. Start reading at `specs/Form.antt`, which has the ten forms of a line, and why a line has none of them;
 //! `specs/Faults.antt` says what is wrong with a line that has one, by what the lines before it have said;
 //! `specs/Settings.antt` what the lines come to; and `specs/File.antt` puts these together.
 #![tactic(auto)]

@@ -2,7 +2,7 @@
 
 ghost use Rattle.std.specs.Prelude.{◌≡◌, map};
 ghost use Rattle.dots_settings.specs.Admitting.{read_value};
-ghost use Rattle.dots_settings.specs.Form.{domain_form, prefix_form, client_form, gateway_form, name_form, ceiling_form, indefinite_form, capacity_of, capacity_form, ports_in, packet_of, packet_form, form_by_word, form_of};
+ghost use Rattle.dots_settings.specs.Form.{domain_form, prefix_form, client_form, gateway_form, upstream_form, name_form, ceiling_form, indefinite_form, capacity_of, capacity_form, ports_in, packet_of, packet_form, form_by_word, form_of};
 
 use crate::capacity::Capacity;
 use crate::complaint::Complaint;
@@ -26,7 +26,7 @@ const MAX_PROTOCOL: u64 = 255;
 /// The greatest port.
 const MAX_PORT: u64 = 65_535;
 
-/// What a line with these fields says, or why it has none of the nine forms. Takes no memory.
+/// What a line with these fields says, or why it has none of the ten forms. Takes no memory.
 pub fn read_form<'a>(fields: &[&'a [u8]]) -> Result<Form<'a>, Complaint>
     ensures { read_value result ≡ form_of (map (λ field. field.now) fields.now) }
 {
@@ -52,6 +52,9 @@ fn form_by_word<'a>(word: &[u8], fields: &[&'a [u8]]) -> Result<Form<'a>, Compla
     }
     if is_word(word, b"gateway") {
         return gateway_form(fields);
+    }
+    if is_word(word, b"upstream") {
+        return upstream_form(fields);
     }
     if is_word(word, b"name") {
         return name_form(fields);
@@ -126,6 +129,18 @@ fn gateway_form<'a>(fields: &[&'a [u8]]) -> Result<Form<'a>, Complaint>
         return Err(Complaint::of_field(Mistake::Peer, 1));
     };
     Ok(Form::Gateway { peer: peer as u32 })
+}
+
+fn upstream_form<'a>(fields: &[&'a [u8]]) -> Result<Form<'a>, Complaint>
+    ensures { read_value result ≡ upstream_form (map (λ field. field.now) fields.now) }
+{
+    let [text] = fields else {
+        return Err(Complaint::of_line(Mistake::UpstreamFields));
+    };
+    let Some(peer) = number_in(0, MAX_PEER, text) else {
+        return Err(Complaint::of_field(Mistake::Peer, 1));
+    };
+    Ok(Form::Upstream { peer: peer as u32 })
 }
 
 fn name_form<'a>(fields: &[&'a [u8]]) -> Result<Form<'a>, Complaint>

@@ -1,7 +1,7 @@
-/// Why a line has none of the nine forms.
+/// Why a line has none of the ten forms.
 #[derive(Clone, Copy)]
 pub enum Mistake {
-    /// It begins with none of the nine words.
+    /// It begins with none of the ten words.
     Word,
     /// `domain NAME` has other fields.
     DomainFields,
@@ -11,6 +11,8 @@ pub enum Mistake {
     ClientFields,
     /// So has `gateway PEER`.
     GatewayFields,
+    /// So has `upstream PEER`.
+    UpstreamFields,
     /// So has `name FQDN PREFIX`.
     NameFields,
     /// So has `ceiling SECONDS`.

@@ -52,7 +52,7 @@ pub fn settings_of(alloc: Global, content: &[u8]) -> Result<Settings, SettingsFa
         }
         rest = behind;
     }
-    let settings = taken.draft.finish(taken.hasher.finalize())?;
+    let settings = taken.draft.finish(taken.number, taken.hasher.finalize())?;
     Ok(settings)
 }
 

@@ -1,4 +1,4 @@
-ghost use Rattle.std.specs.Prelude.{◌≡◌, ◌<◌, ◌≤◌, pos, ◌==◌, [], Some, length, slice_get, find, unwrap_or, position, bytes_eq, IfSome};
+ghost use Rattle.std.specs.Prelude.{◌≡◌, ◌<◌, ◌≤◌, ◌^◌, pos, ◌==◌, [], Some, length, slice_get, find, unwrap_or, position, bytes_eq, IfSome};
 ghost use Rattle.std.specs.List.{AllByRecursion};
 ghost use Rattle.std.specs.Option.{option_map, option_copied};
 ghost use Rattle.dots_settings.specs.Draft.{same_name};
@@ -21,11 +21,13 @@ use std::marker::Model;
 pub struct Settings {
     pub(crate) domains: Vec<DomainRow>,
     pub(crate) peers: Vec<PeerRow>,
+    pub(crate) upstream: Option<u32>,
     pub(crate) names: Vec<NameRow>,
     pub(crate) ceiling: u32,
     pub(crate) indefinite: bool,
     pub(crate) limits: Limits,
     pub(crate) packets: Vec<Packet>,
+    pub(crate) lines: u32,
     pub(crate) digest: [u8; 32],
 }
 
@@ -37,22 +39,26 @@ impl Model for Settings {
     ghost view = { λ s. record {
       domains = s.domains.items;
       peers = s.peers.items;
+      upstream = s.upstream;
       names = s.names.items;
       ceiling = s.ceiling;
       indefinite = s.indefinite;
       limits = s.limits;
       packets = s.packets.items;
+      lines = s.lines;
       digest = s.digest;
     } };
 
     ghost invariant = { λ s. IsSettings (record {
       domains = s.domains.items;
       peers = s.peers.items;
+      upstream = s.upstream;
       names = s.names.items;
       ceiling = s.ceiling;
       indefinite = s.indefinite;
       limits = s.limits;
       packets = s.packets.items;
+      lines = s.lines;
       digest = s.digest;
     }) };
 }
@@ -129,6 +135,16 @@ impl Settings {
             .unwrap_or(Role::Stranger)
     }
 
+    /// The peer that a gateway asks; None where no line names it. It is none of the clients and gateways, so it is a stranger to the
+    /// server.
+    pub fn upstream(&self) -> Option<u32>
+        ensures value { result ≡ self.now.upstream }
+        ensures stranger { IfSome result (λ peer. role_of self.now peer ≡ role.Stranger) }
+        ensures valid { IsSettings self.now }
+    {
+        self.upstream
+    }
+
     /// The host names and their addresses, in the order of their first lines.
     pub fn names(&self) -> &[NameRow]
         ensures value { result.now ≡ self.now.names }
@@ -192,6 +208,15 @@ impl Settings {
         ensures valid { IsSettings self.now }
     {
         self.packets.as_slice()
+    }
+
+    /// How many lines the file has, those that are skipped too: at most 65,536.
+    pub fn lines(&self) -> u32
+        ensures value { result ≡ self.now.lines }
+        ensures few { result ≤ 2 ^ 16 }
+        ensures valid { IsSettings self.now }
+    {
+        self.lines
     }
 
     /// SHA-256 of the lines that aren't skipped and aren't packets, each with one line feed.

@@ -5,13 +5,14 @@ use Rattle.dots_settings.specs.declared.mistake.Mistake.TheVariants as mistake
 use Rattle.file_checks.specs.declared.reason.Reason.{Reason}
 use Rattle.file_checks.specs.declared.reason.Reason.TheVariants as reason
 
--- why a line of the settings has none of the nine forms
+-- why a line of the settings has none of the ten forms
 abbrev pub mistake_words : Mistake → List ℕ
-mistake_words mistake.Word = codes "the first word of a line is domain, prefix, client, gateway, name, ceiling, indefinite, capacity or packet"
+mistake_words mistake.Word = codes "the first word of a line is domain, prefix, client, gateway, upstream, name, ceiling, indefinite, capacity or packet"
 mistake_words mistake.DomainFields = codes "a domain line is: domain NAME, with one space between two fields"
 mistake_words mistake.PrefixFields = codes "a prefix line is: prefix NAME PREFIX, with one space between two fields"
 mistake_words mistake.ClientFields = codes "a client line is: client PEER NAME, with one space between two fields"
 mistake_words mistake.GatewayFields = codes "a gateway line is: gateway PEER, with one space between two fields"
+mistake_words mistake.UpstreamFields = codes "an upstream line is: upstream PEER, with one space between two fields"
 mistake_words mistake.NameFields = codes "a name line is: name FQDN PREFIX, with one space between two fields"
 mistake_words mistake.CeilingFields = codes "a ceiling line is: ceiling SECONDS, with one space between two fields"
 mistake_words mistake.IndefiniteFields = codes "an indefinite line is: indefinite yes, or: indefinite no"
@@ -35,9 +36,10 @@ mistake_words mistake.Port = codes "a port is a number from 0 to 65535, without 
 
 abbrev pub reason_words : Reason → List ℕ
 reason_words (reason.Mistake mistake) = mistake_words mistake
-reason_words reason.Form = codes "a line has one of the nine forms"
+reason_words reason.Form = codes "a line has one of the ten forms"
 reason_words reason.DomainTwice = codes "a line above declares this domain already"
-reason_words reason.PeerTwice = codes "a line above names this peer already, as a client or a gateway"
+reason_words reason.PeerTwice = codes "a line above names this peer already, as a client, a gateway or the upstream"
+reason_words reason.UpstreamTwice = codes "a line above names the upstream already, or this peer as a client or a gateway"
 reason_words reason.CeilingTwice = codes "a line above gives the ceiling already"
 reason_words reason.IndefiniteTwice = codes "a line above says already whether lifetimes without end are granted"
 reason_words reason.CapacityTwice = codes "a line above gives this capacity already"

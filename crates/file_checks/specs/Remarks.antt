@@ -4,7 +4,7 @@ use Rattle.dots_settings.specs.declared.complaint.Complaint.{Complaint}
 use Rattle.dots_settings.specs.declared.fault.SettingsFault.{SettingsFault}
 use Rattle.dots_settings.specs.declared.fault.SettingsFault.TheVariants as fault
 use Rattle.dots_settings.specs.Capacity.{greatest_of}
-use Rattle.dots_settings.specs.Form.{FormValue, form_of, domain_line, prefix_line, client_line, gateway_line, name_line, ceiling_line, indefinite_line, capacity_line, packet_line}
+use Rattle.dots_settings.specs.Form.{FormValue, form_of, domain_line, prefix_line, client_line, gateway_line, upstream_line, name_line, ceiling_line, indefinite_line, capacity_line, packet_line}
 use Rattle.file_checks.specs.declared.remark.Remark.{Remark}
 use Rattle.file_checks.specs.declared.reason.Reason.{Reason}
 use Rattle.file_checks.specs.declared.reason.Reason.TheVariants as reason
@@ -27,6 +27,7 @@ abbrev pub twice_remark : FormValue → Remark
 twice_remark (domain_line name) = of_field reason.DomainTwice 1
 twice_remark (client_line peer name) = of_field reason.PeerTwice 1
 twice_remark (gateway_line peer) = of_field reason.PeerTwice 1
+twice_remark (upstream_line peer) = of_field reason.UpstreamTwice 1
 twice_remark (ceiling_line seconds) = of_line reason.CeilingTwice
 twice_remark (indefinite_line granted) = of_line reason.IndefiniteTwice
 twice_remark (capacity_line what limit) = of_field reason.CapacityTwice 1

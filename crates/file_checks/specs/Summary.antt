@@ -1,5 +1,5 @@
 -- What settings come to, in lines.
-use Rattle.std.specs.Prelude.{ℕ, Bool, true, false, List, ◌++◌, length, flat_map, codes, decimal, count_by}
+use Rattle.std.specs.Prelude.{ℕ, Bool, true, false, Option, Some, None, List, [], ◌++◌, length, flat_map, codes, decimal, count_by}
 use Rattle.dots_settings.specs.declared.limits.Limits.{Limits}
 use Rattle.dots_settings.specs.declared.peer.Role.{Role}
 use Rattle.dots_settings.specs.declared.peer.Role.TheVariants as role
@@ -44,10 +44,16 @@ limits_lines limits = mitigation_limits limits ++ client_limits limits ++ messag
 abbrev pub domains_lines : SettingsValue → List ℕ
 domains_lines settings = count_line (codes "domains") (length settings.domains) ++ flat_map prefixes_line settings.domains
 
+-- `upstream: PEER`, where there is one
+abbrev pub upstream_lines : Option ℕ → List ℕ
+upstream_lines None = []
+upstream_lines (Some peer) = count_line (codes "upstream") peer
+
 abbrev pub people_lines : SettingsValue → List ℕ
 people_lines settings =
     count_line (codes "clients") (count_by (λ row. is_client row.role) settings.peers)
     ++ count_line (codes "gateways") (count_by (λ row. is_gateway row.role) settings.peers)
+    ++ upstream_lines settings.upstream
     ++ count_line (codes "host names") (length settings.names)
 
 abbrev pub lifetimes_lines : SettingsValue → List ℕ

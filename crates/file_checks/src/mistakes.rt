@@ -3,13 +3,13 @@ ghost use Rattle.file_checks.specs.Reason.{mistake_words};
 
 use dots_settings::Mistake;
 
-/// Why a line of the settings has none of the nine forms, in words.
+/// Why a line of the settings has none of the ten forms, in words.
 pub fn mistake_words(mistake: Mistake) -> &'static [u8]
     ensures { result.now ≡ mistake_words mistake }
 {
     match mistake {
         Mistake::Word =>
-            b"the first word of a line is domain, prefix, client, gateway, name, ceiling, indefinite, capacity or packet",
+            b"the first word of a line is domain, prefix, client, gateway, upstream, name, ceiling, indefinite, capacity or packet",
         Mistake::DomainFields =>
             b"a domain line is: domain NAME, with one space between two fields",
         Mistake::PrefixFields =>
@@ -18,6 +18,8 @@ pub fn mistake_words(mistake: Mistake) -> &'static [u8]
             b"a client line is: client PEER NAME, with one space between two fields",
         Mistake::GatewayFields =>
             b"a gateway line is: gateway PEER, with one space between two fields",
+        Mistake::UpstreamFields =>
+            b"an upstream line is: upstream PEER, with one space between two fields",
         Mistake::NameFields =>
             b"a name line is: name FQDN PREFIX, with one space between two fields",
         Mistake::CeilingFields =>

@@ -9,7 +9,7 @@ use itoa::Buffer;
 /// Why a line of the settings or of a script is at fault.
 #[derive(Clone, Copy)]
 pub enum Reason {
-    /// A line of the settings has none of the nine forms.
+    /// A line of the settings has none of the ten forms.
     Mistake(Mistake),
     /// It has none of the forms.
     Form,
@@ -17,6 +17,8 @@ pub enum Reason {
     DomainTwice,
     /// The peer stands above.
     PeerTwice,
+    /// An upstream stands above, or the peer does.
+    UpstreamTwice,
     /// The ceiling stands above.
     CeilingTwice,
     /// Whether -1 is granted stands above.
@@ -86,9 +88,12 @@ impl Reason {
     {
         match self {
             Reason::Mistake(mistake) => mistake_words(mistake),
-            Reason::Form => b"a line has one of the nine forms",
+            Reason::Form => b"a line has one of the ten forms",
             Reason::DomainTwice => b"a line above declares this domain already",
-            Reason::PeerTwice => b"a line above names this peer already, as a client or a gateway",
+            Reason::PeerTwice =>
+                b"a line above names this peer already, as a client, a gateway or the upstream",
+            Reason::UpstreamTwice =>
+                b"a line above names the upstream already, or this peer as a client or a gateway",
             Reason::CeilingTwice => b"a line above gives the ceiling already",
             Reason::IndefiniteTwice =>
                 b"a line above says already whether lifetimes without end are granted",

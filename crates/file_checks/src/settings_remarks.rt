@@ -42,6 +42,7 @@ fn twice_remark(form: &Form<'_>) -> Remark
         Form::Domain { .. } => Remark::of_field(Reason::DomainTwice, 1),
         Form::Client { .. } => Remark::of_field(Reason::PeerTwice, 1),
         Form::Gateway { .. } => Remark::of_field(Reason::PeerTwice, 1),
+        Form::Upstream { .. } => Remark::of_field(Reason::UpstreamTwice, 1),
         Form::Ceiling { .. } => Remark::of_line(Reason::CeilingTwice),
         Form::Indefinite { .. } => Remark::of_line(Reason::IndefiniteTwice),
         Form::Capacity { .. } => Remark::of_field(Reason::CapacityTwice, 1),

@@ -1,7 +1,7 @@
 //! What settings come to, in lines.
 
 ghost use Rattle.std.specs.Prelude.{◌≡◌, ◌<◌, ◌+◌, ◌++◌, ℕ, List, length, flat_map, take, count_by, OnOk, IfOk};
-ghost use Rattle.file_checks.specs.Summary.{count_line, prefixes_line, is_client, is_gateway, granted_line, mitigation_limits, client_limits, message_limits, limits_lines, domains_lines, people_lines, lifetimes_lines, amounts_lines, summary};
+ghost use Rattle.file_checks.specs.Summary.{count_line, prefixes_line, is_client, is_gateway, upstream_lines, granted_line, mitigation_limits, client_limits, message_limits, limits_lines, domains_lines, people_lines, lifetimes_lines, amounts_lines, summary};
 
 use crate::pieces::add;
 use dots_lists::{Bytes, NoMemory};
@@ -83,13 +83,24 @@ fn add_named(text: &mut Vec<u8>, name: &[u8], prefixes: &[Prefix]) -> Result<(),
     add(text, &pieces)
 }
 
-/// Adds how many clients, gateways and host names there are.
+/// Adds how many clients and gateways there are, the upstream, and how many host names there are.
 fn add_people(text: &mut Vec<u8>, settings: &Settings) -> Result<(), NoMemory>
     ensures { OnOk result (text.new.items ≡ text.old.items ++ people_lines settings.now) }
 {
     add_count(text, b"clients", count_clients(settings.peers()) as u64)?;
     add_count(text, b"gateways", count_gateways(settings.peers()) as u64)?;
+    add_upstream(text, settings.upstream())?;
     add_count(text, b"host names", settings.names().len() as u64)
+}
+
+/// Adds `upstream: PEER`, where there is one.
+fn add_upstream(text: &mut Vec<u8>, upstream: Option<u32>) -> Result<(), NoMemory>
+    ensures { OnOk result (text.new.items ≡ text.old.items ++ upstream_lines upstream) }
+{
+    match upstream {
+        Some(peer) => add_count(text, b"upstream", u64::from(peer)),
+        None => Ok(()),
+    }
 }
 
 fn count_clients(peers: &[PeerRow]) -> usize

@@ -1,6 +1,6 @@
 //! What is told of settings and scripts that are checked.
 
-/// Settings that are at fault, and what is told of them.
+/// Settings, nearly all of which are at fault, and what is told of them.
 pub const SETTINGS: &str = "\
 $ check settings
 ? 3
@@ -8,7 +8,7 @@ $ check settings
 : domain net1
 : prefx net1 192.0.2.0/24
 = settings line 2
-= line 2: the first word of a line is domain, prefix, client, gateway, name, ceiling, indefinite, capacity or packet: \"prefx\"
+= line 2: the first word of a line is domain, prefix, client, gateway, upstream, name, ceiling, indefinite, capacity or packet: \"prefx\"
 
 : domain net1 +
 = settings line 1
@@ -47,6 +47,14 @@ $ check settings
 = settings line 1
 = line 1: a peer is a number from 0 to 4294967295, without leading zeros: \"4294967296\"
 
+: upstream
+= settings line 1
+= line 1: an upstream line is: upstream PEER, with one space between two fields: \"upstream\"
+
+: upstream 4294967296
+= settings line 1
+= line 1: a peer is a number from 0 to 4294967295, without leading zeros: \"4294967296\"
+
 : ceiling 0
 = settings line 1
 = line 1: the ceiling is a number of seconds from 1 to 604800, without leading zeros: \"0\"
@@ -72,6 +80,40 @@ $ check settings
 : domain net1
 = settings twice 3
 = line 3: a line above declares this domain already: \"net1\"
+
+: upstream 9
+: upstream 8
+= settings twice 2
+= line 2: a line above names the upstream already, or this peer as a client or a gateway: \"8\"
+
+: gateway 9
+: upstream 9
+= settings twice 2
+= line 2: a line above names the upstream already, or this peer as a client or a gateway: \"9\"
+
+: upstream 9
+: client 9 net1
+= settings twice 2
+= line 2: a line above names this peer already, as a client, a gateway or the upstream: \"9\"
+
+: gateway 3
+: upstream 9
+= domains: 0
+= clients: 0
+= gateways: 1
+= upstream: 9
+= host names: 0
+= ceiling in seconds: 86400
+= lifetimes without end: no
+= client-mitigations: 16
+= domain-mitigations: 64
+= clients of a domain: 8
+= aliases: 16
+= acls: 8
+= remembered: 64
+= observers: 8
+= sample packets: 0
+? 0
 
 : domain net1
 : client 0 net2

@@ -33,6 +33,21 @@ $ replay settings
 :| gateway 4294967295
 ? 0
 
+:| upstream
+= settings line 1
+
+:| upstream 9 net1
+= settings line 1
+
+:| upstream 09
+= settings line 1
+
+:| upstream 4294967296
+= settings line 1
+
+:| upstream 4294967295
+? 0
+
 :| name a b 192.0.2.1/32
 = settings line 1
 
@@ -63,6 +78,27 @@ $ replay settings
 
 : gateway 1
 : client 1 a
+= settings twice 2
+
+: upstream 9
+: upstream 8
+= settings twice 2
+
+: domain a
+: client 9 a
+: upstream 9
+= settings twice 3
+
+: gateway 9
+: upstream 9
+= settings twice 2
+
+: upstream 9
+: client 9 a
+= settings twice 2
+
+: upstream 9
+: gateway 9
 = settings twice 2
 
 : ceiling 1

@@ -1,5 +1,5 @@
 use Rattle.std.proofs.Common.{[], refl, arith, ◌∙◌, sym}
-use Rattle.dots_settings.proofs.ReadTo.{at_start, read_line, past_end, refused_line, sound, read_whole}
+use Rattle.dots_settings.proofs.ReadTo.{at_start, read_line, past_end, refused_line, sound, few_read, read_whole}
 use Rattle.dots_settings.proofs.Rows.{stand_none}
 use Rattle.dots_settings.proofs.reading.settings_of.Goals as goal
 
@@ -33,7 +33,10 @@ loop-line-preserved c =
     (sym c.is_past.ensures ∙ c.if-is_past.false) c.in_default-take.ensures.ok
 
 pub finish-requires : goal.finish-requires
-finish-requires c = sound c.args.content.now c.loop-line.rest.now c.loop-line.taken c.loop-line.invariant
+finish-requires c = record {
+  sound = sound c.args.content.now c.loop-line.rest.now c.loop-line.taken c.loop-line.invariant;
+  few = few_read c.args.content.now c.loop-line.rest.now c.loop-line.taken c.loop-line.invariant c.in_default.ensures.lines;
+}
 
 pub returns-clause-ok : goal.returns-clause-ok
 returns-clause-ok c = read_whole c.args.content.now c.loop-line.rest.now c.finalize.result c.loop-line.taken _ c.loop-line.invariant c.requires c.in_default.ensures.lines
