@@ -1,10 +1,12 @@
 -- The young exchanges of a store are its last ones.
-use Rattle.std.proofs.Common.{◌≡◌, ℕ, zero, suc, ◌+◌, ◌<◌, ◌≤◌, Bool, true, false, cond, List, [], ◌∷◌, ◌++◌, length, take, drop, get_or, inl, inr, refl, sym, ap, subst, ◌∙◌, take-append-drop, arith}
+use Rattle.std.proofs.Common.{◌≡◌, ℕ, suc, ◌+◌, ◌<◌, ◌≤◌, Bool, true, false, List, [], ◌∷◌, ◌++◌, length, take, drop, get_or, inl, inr, refl, sym, ap, ◌∙◌, take-append-drop, arith}
 use Rattle.std.specs.Prelude.{◌^◌, ◌-◌, ◌⊎◌, not, nat_lt}
 use Rattle.std.proofs.lemmas.Bool.{leb-true, le-leb, lt-ltb, le-ltb, cond-true, cond-false, cases_lt, not_from_true, not_from_false}
+use Rattle.std.proofs.lemmas.List.{length-drop, take_all}
 use Rattle.dots_gateway.specs.declared.exchange.Exchange.{Exchange}
-use Rattle.gateway_store.specs.Exchanges.{IsStore, is_young, young_at, last_number, last_time}
-use Rattle.gateway_store.proofs.Orders.{AreOrdered, ordered, joined, number_more, time_more}
+use Rattle.dots_gateway.specs.Exchanges.{AreRestorable}
+use Rattle.gateway_store.specs.Exchanges.{IsStore, is_young, young_at, last_number, last_time, next_number}
+use Rattle.gateway_store.proofs.Orders.{AreOrdered, ordered, joined, number_more, time_more, restorable}
 
 pub is_more : (now : ℕ) (x : Exchange) (xs : List Exchange) → is_young now x ≡ true → young_at now (x ∷ xs) ≡ x ∷ young_at now xs
 is_more now x xs is = cond-true (is_young now x) (x ∷ young_at now xs) (young_at now xs) is
@@ -144,3 +146,17 @@ number_small most (x ∷ xs) store =
     let below = is.below in
     let at = ap last_number end.cut ∙ number_more 0 end.before end.last in
     omega (arith, below, at)
+
+-- the last ones, as many as are young, are the young ones
+pub young_part : (most now n : ℕ) (xs : List Exchange) → IsStore most xs → n ≡ length (young_at now xs)
+    → take (length xs - (length xs - n)) (drop (length xs - n) xs) ≡ young_at now xs
+young_part most now n xs store is =
+    take_all (length xs - (length xs - n)) (drop (length xs - n) xs) (omega (arith, length-drop (length xs - n) xs))
+    ∙ ap (λ k. drop (length xs - k) xs) is
+    ∙ sym (are_last now 0 0 xs (ordered most xs store))
+
+-- and they may wait again
+pub young_restorable : (most now : ℕ) (xs : List Exchange) → IsStore most xs → AreRestorable (young_at now xs) (next_number xs)
+young_restorable most now xs store =
+    let end = are_end most now xs store in
+    restorable most xs end.0 (young_at now xs) store end.1

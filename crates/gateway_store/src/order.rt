@@ -1,6 +1,6 @@
 //! The exchanges of a store, in the order in which they were passed on.
 
-ghost use Rattle.std.specs.Prelude.{◌≡◌, ◌<◌, ◌≤◌, length, max, nat_lt};
+ghost use Rattle.std.specs.Prelude.{◌≡◌, ℕ, ◌<◌, ◌≤◌, length, max, nat_lt};
 ghost use Rattle.gateway_store.specs.Exchanges.{IsStore, is_young, joins, last_number, last_time, most_young, young_at};
 
 use crate::form::is_of_request;
@@ -24,6 +24,16 @@ pub fn count_young(exchanges: &[Exchange], now: u64) -> usize
         .iter()
         .filter(|exchange| is_young(exchange, now))
         .count()
+}
+
+/// Those of a store that are at most 246 seconds old at the time `now`, in seconds, or at the time of the last one, if that is later.
+pub fn young_among(exchanges: &[Exchange], now: u64) -> &[Exchange]
+    requires { (most : ℕ) × IsStore most exchanges.now }
+    ensures { result.now ≡ young_at (max now (last_time exchanges.now)) exchanges.now }
+{
+    let time = now.max(last_time(exchanges));
+    let old = exchanges.len() - count_young(exchanges, time);
+    &exchanges[old..]
 }
 
 /// The number of the last exchange, and 0 where there is none.

@@ -8,13 +8,14 @@ ghost use Rattle.dots_history.specs.declared.entry.Entry.{Entry};
 ghost use Rattle.slot_store.specs.Copying.{other_selector};
 ghost use Rattle.slot_store.specs.Layout.{needed_of};
 ghost use Rattle.slot_journal.specs.DiskEntries.{HoldsEither, Represents};
+ghost use Rattle.dots_gateway.specs.Exchanges.{AreRestorable};
 ghost use Rattle.gateway_store.specs.Crashes.{AreLeft, HoldsOne, HoldsStep, HoldsYoung};
-ghost use Rattle.gateway_store.specs.Exchanges.{IsStore, joins, kept_at, last_number, last_time, most_young, young_at};
+ghost use Rattle.gateway_store.specs.Exchanges.{IsStore, joins, kept_at, last_number, last_time, most_young, next_number, young_at};
 ghost use Rattle.gateway_store.specs.Forms.{entry_of};
 ghost use Rattle.gateway_store.specs.Stores.{AreReplies, CanKeep, IsOn, once_free};
 
 use crate::form::entry_of;
-use crate::order::{count_young, joins, most_young};
+use crate::order::{count_young, joins, most_young, young_among};
 use dots_disk::Disk;
 use dots_gateway::Exchange;
 use dots_history::Entry;
@@ -67,6 +68,26 @@ impl Store {
         ensures { result ≡ needed_of self.now.journal.slots }
     {
         8192 * (1 + 2 * u64::from(self.journal.slots()))
+    }
+
+    /// How many exchanges may be at most 246 seconds old at once. A gateway that keeps its exchanges here has room for as many
+    /// (`GatewayCore::new`).
+    pub fn most_young(&self) -> usize
+        ensures most { result ≡ most_young self.now.journal.slots }
+        ensures some { 0 < result }
+        ensures room { result ≤ 1024 }
+    {
+        most_young(self.journal.slots())
+    }
+
+    /// The exchanges that are at most 246 seconds old at the time `now`, in seconds, or at the time of the last one, if that is later: so
+    /// many at the end. A gateway that has room for them lets them wait again (`GatewayCore::restore`). Takes no memory.
+    pub fn young(&self, now: u64) -> &[Exchange]
+        ensures young { result.now ≡ young_at (max now (last_time self.now.exchanges)) self.now.exchanges }
+        ensures few { length result.now ≤ most_young self.now.journal.slots }
+        ensures restorable { AreRestorable result.now (next_number self.now.exchanges) }
+    {
+        young_among(self.exchanges.as_slice(), now)
     }
 
     /// Whether an exchange may be kept at the time `now`, in seconds.
