@@ -1,11 +1,11 @@
 -- What a crash leaves while one more exchange is kept.
-use Rattle.std.proofs.Common.{◌≡◌, ℕ, zero, suc, ◌+◌, ◌<◌, ◌≤◌, Bool, true, false, List, [], ◌∷◌, ◌++◌, length, drop, map, inl, inr, refl, sym, ap, subst, ◌∙◌, append_assoc, arith}
-use Rattle.std.specs.Prelude.{◌^◌, ◌-◌, ◌⊎◌, ◌&&◌, not, min, nat_le, nat_lt, Option, Result, Ok, Err, OnOk, OnErr}
+use Rattle.std.proofs.Common.{◌≡◌, ℕ, zero, suc, ◌+◌, ◌<◌, ◌≤◌, true, false, List, [], ◌∷◌, ◌++◌, length, drop, inl, inr, refl, sym, ap, subst, ◌∙◌, arith}
+use Rattle.std.specs.Prelude.{◌^◌, ◌-◌, not, nat_le, nat_lt, Option, Result, Ok, Err, OnErr}
 use Rattle.std.proofs.lemmas.Bool.{cond-true, cond-false, lt-ltb, le-ltb, le-leb, cases_lt, and_from, and_parts, not-true, not_from_false}
-use Rattle.std.proofs.lemmas.List.{length-append, map-append}
+use Rattle.std.proofs.lemmas.List.{length-append}
 use Rattle.std.proofs.lemmas.List.Elements.{filter-append}
 use Rattle.dots_disk.specs.Media.{Media}
-use Rattle.dots_disk.specs.Becoming.{Leaves, RestsWith}
+use Rattle.dots_disk.specs.Becoming.{Leaves}
 use Rattle.dots_settings.specs.Settings.{SettingsValue}
 use Rattle.dots_laws.specs.Calm.{is_http}
 use Rattle.dots_gateway.specs.declared.exchange.Exchange.{Exchange}
@@ -13,9 +13,9 @@ use Rattle.slot_store.proofs.Steps.{leaves_as}
 use Rattle.gateway_store.specs.Forms.{entry_of, entries_of, is_of_request}
 use Rattle.gateway_store.specs.Exchanges.{IsStore, is_young, young_at, last_number, last_time, most_young, joins, kept_at}
 use Rattle.gateway_store.specs.Stores.{StoreValue, CanKeep, once_free}
-use Rattle.gateway_store.specs.Crashes.{HoldsThe, HoldsOne, HoldsStep, HoldsYoung, AreAlike, AreLeft}
+use Rattle.gateway_store.specs.Crashes.{HoldsOne, HoldsStep, HoldsYoung, AreLeft}
 use Rattle.gateway_store.proofs.Orders.{joined, joining, one_more, dropped_are, number_more, time_dropped}
-use Rattle.gateway_store.proofs.Young.{is_more, is_same}
+use Rattle.gateway_store.proofs.Young.{is_more}
 use Rattle.gateway_store.proofs.Kept.{kept_alike, where_some, where_none}
 
 pub free_is : (now : ℕ) (store : StoreValue) → store.journal.used < store.journal.slots → once_free now store ≡ store.exchanges

@@ -1,12 +1,12 @@
 -- What a compaction keeps of the exchanges of a store: a part at their end.
-use Rattle.std.proofs.Common.{◌≡◌, ℕ, zero, suc, ◌+◌, ◌<◌, ◌≤◌, Bool, true, false, cond, List, [], ◌∷◌, ◌++◌, length, drop, inl, inr, refl, sym, ap, subst, ◌∙◌, arith}
-use Rattle.std.specs.Prelude.{◌-◌, ◌⊎◌, ◌==◌, ◌||◌, filter}
+use Rattle.std.proofs.Common.{◌≡◌, ℕ, suc, ◌+◌, ◌<◌, ◌≤◌, Bool, true, false, List, [], ◌∷◌, length, drop, refl, sym, ap, ◌∙◌, arith}
+use Rattle.std.specs.Prelude.{◌-◌, ◌==◌, ◌||◌, filter}
 use Rattle.std.proofs.lemmas.Bool.{le-leb, eq-eqb, ne_eqb, cond-true, cond-false, or_left, or_right, or_from}
 use Rattle.dots_gateway.specs.declared.exchange.Exchange.{Exchange}
 use Rattle.gateway_store.specs.Exchanges.{IsStore, is_young, young_at, number_or, last_number, kept_at}
 use Rattle.gateway_store.specs.Crashes.{AreAlike}
 use Rattle.gateway_store.proofs.Orders.{AreOrdered, ordered, number_above, number_dropped}
-use Rattle.gateway_store.proofs.Young.{is_more, is_same, few, young_behind, young_time, all_young, are_last}
+use Rattle.gateway_store.proofs.Young.{is_more, is_same, young_time, all_young, are_last}
 
 -- the young ones, and the one with this number
 abbrev kept_by : ℕ → ℕ → List Exchange → List Exchange

@@ -1,6 +1,6 @@
 -- The exchanges of a store, one behind another.
 use Rattle.std.proofs.Common.{◌≡◌, ℕ, zero, suc, ◌+◌, ◌<◌, ◌≤◌, true, List, [], ◌∷◌, ◌++◌, length, take, drop, get_or, inl, inr, refl, sym, ap, subst, ◌∙◌, append_assoc, take-append-drop, arith}
-use Rattle.std.specs.Prelude.{◌^◌, ◌-◌, ◌⊎◌, ◌&&◌, nat_le, nat_lt, filter}
+use Rattle.std.specs.Prelude.{◌^◌, ◌-◌, ◌⊎◌, ◌&&◌, nat_le, nat_lt}
 use Rattle.std.proofs.lemmas.Bool.{and_parts, and_from, ltb-true, leb-true, lt-ltb, le-leb}
 use Rattle.std.proofs.lemmas.List.{length-append}
 use Rattle.std.proofs.lemmas.List.Elements.{filter-append}

@@ -1,9 +1,9 @@
 -- How the exchanges of a journal's entries are taken, and why a store doesn't open.
-use Rattle.std.proofs.Common.{◌≡◌, ℕ, zero, suc, ◌+◌, ◌%◌, ◌<◌, ◌≤◌, true, false, List, [], ◌∷◌, ◌++◌, length, take, drop, get_or, Option, Some, None, Result, Ok, Err, inl, inr, refl, sym, ap, subst, ◌∙◌, append_assoc, arith}
-use Rattle.std.specs.Prelude.{◌^◌, ◌⊎◌, slice_get}
+use Rattle.std.proofs.Common.{◌≡◌, ℕ, zero, suc, ◌+◌, ◌%◌, ◌<◌, ◌≤◌, true, false, List, [], ◌∷◌, ◌++◌, length, take, drop, get_or, Option, Some, None, Err, inl, inr, refl, sym, ap, subst, ◌∙◌, append_assoc, arith}
+use Rattle.std.specs.Prelude.{◌⊎◌}
 use Rattle.std.specs.List.{AllByRecursion}
 use Rattle.std.proofs.lemmas.Bool.{false≢true}
-use Rattle.std.proofs.lemmas.List.{length-append, length-map, map-append}
+use Rattle.std.proofs.lemmas.List.{length-map}
 use Rattle.dots_disk.specs.Media.{Media}
 use Rattle.dots_disk.specs.Becoming.{RestsWith}
 use Rattle.dots_settings.specs.Settings.{SettingsValue}
@@ -20,13 +20,13 @@ use Rattle.slot_journal.specs.DiskEntries.{HasRecord, Holds, Represents}
 use Rattle.slot_journal.specs.Refused.{Refuses, Caused}
 use Rattle.slot_journal.specs.Untaken.{IsFailure}
 use Rattle.slot_journal.proofs.Crashing.{holds_not_refused, one_history}
-use Rattle.gateway_store.specs.Forms.{entry_of, entries_of, exchange_in, is_of_request}
+use Rattle.gateway_store.specs.Forms.{entry_of, entries_of, exchange_in}
 use Rattle.gateway_store.specs.Exchanges.{IsStore, joins, most_young}
 use Rattle.gateway_store.specs.Crashes.{AreAlike, HoldsThe, HoldsYoung}
-use Rattle.gateway_store.specs.Refusing.{IsStray, RefusesEntries, RefusesStore, HoldsStray}
+use Rattle.gateway_store.specs.Refusing.{IsStray, RefusesEntries, RefusesStore}
 use Rattle.gateway_store.proofs.Forms.{back, only, some_same}
 use Rattle.gateway_store.proofs.Keeping.{entries_more}
-use Rattle.gateway_store.proofs.Orders.{joined, first_are}
+use Rattle.gateway_store.proofs.Orders.{joined}
 
 pub record_at : (entries : List Entry) (place : ℕ) (e : Entry) → AllByRecursion HasRecord entries → place < length entries → e ≡ get_or entries place e → HasRecord e
 record_at [] place e each inside is = absurd (omega (arith, inside))

@@ -1,5 +1,5 @@
 -- What a store keeps in memory, and for what it stands on a disk.
-use Rattle.std.specs.Prelude.{◌≡◌, ℕ, ◌+◌, ◌-◌, ◌^◌, ◌<◌, ◌≤◌, false, nat_lt, if◌then◌else◌, List, [], length, map}
+use Rattle.std.specs.Prelude.{◌≡◌, ℕ, ◌-◌, ◌^◌, ◌<◌, ◌≤◌, false, nat_lt, if◌then◌else◌, List, length, map}
 use Rattle.std.specs.List.{range_with_len}
 use Rattle.dots_settings.specs.Settings.{SettingsValue}
 use Rattle.dots_laws.specs.Calm.{is_http}

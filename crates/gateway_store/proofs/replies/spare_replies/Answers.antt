@@ -1,4 +1,4 @@
-use Rattle.std.proofs.Common.{ℕ, ◌+◌, ◌∷◌, [], ◌++◌, length, map, ap, sym, ◌∙◌, arith}
+use Rattle.std.proofs.Common.{◌+◌, length, map, ap, sym, ◌∙◌, arith}
 use Rattle.std.proofs.lemmas.List.{length-map, length-take-le}
 use Rattle.std.proofs.lemmas.List.FromFn.{length-range_with_len}
 use Rattle.gateway_store.proofs.Sizes.{sizes_more}

@@ -1,4 +1,4 @@
-use Rattle.std.proofs.Common.{◌≡◌, ℕ, true, List, [], ◌∷◌, ◌++◌, inl, inr, refl, sym, ap, subst, ◌∙◌}
+use Rattle.std.proofs.Common.{◌≡◌, ℕ, true, List, [], ◌∷◌, ◌++◌, inl, inr, sym, ap, subst, ◌∙◌}
 use Rattle.dots_host.specs.Causes.{HasCause}
 use Rattle.dots_disk.specs.Becoming.{Leaves}
 use Rattle.dots_gateway.specs.declared.exchange.Exchange.{Exchange}

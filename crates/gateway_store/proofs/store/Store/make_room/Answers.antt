@@ -1,5 +1,5 @@
-use Rattle.std.proofs.Common.{◌≡◌, ℕ, ◌<◌, ◌≤◌, List, refl, sym, ap, subst, ◌∙◌, arith}
-use Rattle.dots_disk.specs.Becoming.{Leaves, RestsWith}
+use Rattle.std.proofs.Common.{◌<◌, ◌≤◌, List, refl, sym, ap, subst, ◌∙◌, arith}
+use Rattle.dots_disk.specs.Becoming.{Leaves}
 use Rattle.dots_gateway.specs.declared.exchange.Exchange.{Exchange}
 use Rattle.slot_store.proofs.Steps.{begins}
 use Rattle.slot_journal.proofs.Crashing.{on_ok_as}
