@@ -1,9 +1,11 @@
-ghost use Rattle.std.specs.Prelude.{◌≡◌, ◌==◌, ◌<◌, ◌≤◌, ◌++◌, [], length, drop, true, false, not, None, Some, unwrap_or, IfOk, IfSome};
+ghost use Rattle.std.specs.Prelude.{◌≡◌, ◌==◌, ◌<◌, ◌≤◌, ◌++◌, ◌⊎◌, [], length, take, drop, true, false, not, None, Some, unwrap_or, if◌then◌else◌, IfOk, OnOk, OnErr};
 ghost use Rattle.dots_edge.specs.Events.{IsPiece, AfterRead};
+ghost use Rattle.dots_edge.specs.Sends.{all_sent, TookOn, TookOrKept, IsLost, HasWrittenOn};
 ghost use Rattle.dots_edge.specs.Passing.{is_stale};
 
 use crate::passing::have_passed;
 use crate::rest::Rest;
+use crate::taken::{Passed, Taken};
 use dots_host::Sent;
 use mio::net::TcpStream;
 use mio::{Interest, Registry, Token};
@@ -57,6 +59,8 @@ pub struct Connection {
     broken: bool,
     /// Whether the server has closed it. It lives until the rest is written.
     closing: bool,
+    /// What of the sends the socket took.
+    taken: Taken,
     /// What was sent and the socket hasn't taken yet.
     rest: Rest,
 }
@@ -74,9 +78,11 @@ impl Connection {
           asked = None;
           broken = false;
           closing = false;
+          taken = result.taken;
           rest = result.rest;
         } }
         ensures rest { result.rest.bytes.items ≡ [] }
+        ensures taken { result.taken.bytes ≡ [] }
     {
         Connection {
             stream,
@@ -88,6 +94,7 @@ impl Connection {
             asked: None,
             broken: false,
             closing: false,
+            taken: Taken::new(),
             rest: Rest::new(alloc),
         }
     }
@@ -103,9 +110,21 @@ impl Connection {
     /// Writes on what is kept, and else reads what has come.
     pub fn turn(&mut self, into: &mut [u8], now: Duration, registry: &Registry) -> Piece
         ensures piece { IsPiece result (length into.old) }
+        ensures broken { self.old.broken ≡ true → result ≡ Piece.Ended }
         // Nothing is read while something is kept.
         ensures rest { 0 < length self.old.rest.bytes.items → IsPiece result 0 × (into.new ≡ into.old) }
+        // What is kept goes on in its order, or all of it is lost and the connection ends.
+        ensures written { 0 < length self.old.rest.bytes.items → self.old.broken ≡ false →
+            HasWrittenOn now self.old self.new ⊎ (IsLost self.new × (result ≡ Piece.Ended)) }
+        // Where nothing is kept it is a read, which changes nothing else.
+        ensures after { self.old.rest.bytes.items ≡ [] → AfterRead result now self.old self.new }
+        ensures kept { self.old.rest.bytes.items ≡ [] →
+            self.new ≡ record self.old { moved = self.new.moved; asked = self.new.asked; ready = self.new.ready } }
+        ensures closing { self.new.closing ≡ self.old.closing }
     {
+        if self.broken {
+            return Piece::Ended;
+        }
         if !self.rest.is_empty() {
             return self.write_on(now, registry);
         }
@@ -118,13 +137,9 @@ impl Connection {
     /// Reads what has come.
     fn read(&mut self, into: &mut [u8], now: Duration) -> Piece
         ensures piece { IsPiece result (length into.old) }
-        ensures broken { self.old.broken ≡ true → result ≡ Piece.Ended }
-        ensures kept { self.new.broken ≡ self.old.broken }
+        ensures kept { self.new ≡ record self.old { moved = self.new.moved; asked = self.new.asked; ready = self.new.ready } }
         ensures after { AfterRead result now self.old self.new }
     {
-        if self.broken {
-            return Piece::Ended;
-        }
         match self.stream.read(into) {
             Ok(0) => Piece::Ended,
             Ok(count) => {
@@ -153,12 +168,15 @@ impl Connection {
 
     /// Writes on what is kept, where the socket may take some of it.
     fn write_on(&mut self, now: Duration, registry: &Registry) -> Piece
-        ensures { IsPiece result 0 }
+        requires { self.old.broken ≡ false }
+        ensures piece { IsPiece result 0 }
+        ensures written { HasWrittenOn now self.old self.new ⊎ (IsLost self.new × (result ≡ Piece.Ended)) }
+        ensures closing { self.new.closing ≡ self.old.closing }
     {
         if !self.takes {
             return Piece::Nothing;
         }
-        match write_once(&mut self.stream, self.rest.as_slice()) {
+        match self.write_rest() {
             Ok(Some(count)) => self.pass(count, now, registry),
             Ok(None) => {
                 self.takes = false;
@@ -171,12 +189,30 @@ impl Connection {
         }
     }
 
-    /// The socket took so many bytes of the rest. A connection that the server has closed ends behind the last of them.
-    fn pass(&mut self, count: usize, now: Duration, registry: &Registry) -> Piece
-        requires { count ≤ length self.old.rest.bytes.items }
-        ensures { IsPiece result 0 }
+    /// Has the socket take some of the rest, and answers how many bytes it took. None where it takes none now.
+    fn write_rest(&mut self) -> io::Result<Option<usize>>
+        ensures kept { self.new ≡ record self.old { taken = self.new.taken; rest = self.new.rest } }
+        ensures took { TookOn self.old self.new }
+        // What is kept are the last bytes, in their order.
+        ensures count { IfOk result (λ some. self.new.rest.bytes.items ≡ drop (unwrap_or some 0) self.old.rest.bytes.items) }
     {
-        self.rest.pass(count);
+        let some = write_once(&mut self.stream, &mut self.taken, self.rest.as_slice())?;
+        if let Some(count) = some {
+            self.rest.pass(count);
+        }
+        Ok(some)
+    }
+
+    /// The socket took so many bytes of the rest now. A connection that the server has closed ends behind the last of them.
+    fn pass(&mut self, count: usize, now: Duration, registry: &Registry) -> Piece
+        requires { self.old.broken ≡ false }
+        ensures piece { IsPiece result 0 }
+        ensures went { (self.new ≡ record self.old { moved = if count == 0 then self.old.moved else now; told = self.new.told })
+            ⊎ (IsLost self.new × (result ≡ Piece.Ended)) }
+        ensures closing { self.new.closing ≡ self.old.closing }
+        // It ends there alone, or since it is lost.
+        ensures ends { result ≡ Piece.Ended → self.new.rest.bytes.items ≡ [] }
+    {
         if count > 0 {
             self.moved = now;
         }
@@ -194,7 +230,11 @@ impl Connection {
     pub fn send(&mut self, bytes: &[u8], now: Duration, registry: &Registry) -> Sent
         ensures done { result ≡ Sent.Done → (self.old.broken ≡ false) × (self.new.broken ≡ false)
             × (self.new.moved ≡ now) × (self.new.asked ≡ None) × (self.new.ready ≡ self.old.ready) }
+        // The bytes go behind all others, and what the socket hasn't taken of them is kept.
+        ensures sent { result ≡ Sent.Done → TookOrKept self.old bytes.now self.new }
         ensures lost { result ≡ Sent.Lost → (self.new.broken ≡ true) × (self.new.ready ≡ true) }
+        ensures left { result ≡ Sent.Lost → self.new.rest.bytes.items ≡ [] }
+        ensures closing { self.new.closing ≡ self.old.closing }
     {
         if self.broken || self.give(bytes).is_err() || self.tell(registry).is_err() {
             self.lose();
@@ -205,20 +245,22 @@ impl Connection {
         Sent::Done
     }
 
-    /// Gives the bytes to the socket, behind the rest, and keeps what it doesn't take now. Answers how many it took.
-    fn give(&mut self, bytes: &[u8]) -> io::Result<usize>
-        ensures kept { self.new ≡ record self.old { takes = self.new.takes; rest = self.new.rest } }
-        // What is kept are the last bytes of all, in their order.
-        ensures order { IfOk result (λ count. self.new.rest.bytes.items ≡ drop count (self.old.rest.bytes.items ++ bytes.now)) }
+    /// Gives the rest to the socket, and the bytes where that leaves none. Keeps what the socket doesn't take now.
+    fn give(&mut self, bytes: &[u8]) -> io::Result<()>
+        ensures kept { self.new ≡ record self.old { takes = self.new.takes; taken = self.new.taken; rest = self.new.rest } }
+        ensures sent { OnOk result (TookOrKept self.old bytes.now self.new) }
     {
+        if self.has_rest() {
+            self.write_rest()?;
+        }
         let count = if self.rest.is_empty() {
-            write_once(&mut self.stream, bytes)?.unwrap_or(0)
+            write_once(&mut self.stream, &mut self.taken, bytes)?.unwrap_or(0)
         } else {
             0
         };
         self.rest.keep(&bytes[count..])?;
         self.takes = true;
-        Ok(count)
+        Ok(())
     }
 
     /// Has waits tell when the socket takes more, too, while there is a rest.
@@ -300,13 +342,19 @@ impl Connection {
 }
 
 /// How many of the bytes the socket takes in one write. None where it takes none now.
-fn write_once(stream: &mut TcpStream, bytes: &[u8]) -> io::Result<Option<usize>>
-    ensures count { IfOk result (λ taken. IfSome taken (λ count. count ≤ length bytes.now)) }
+fn write_once(stream: &mut TcpStream, taken: &mut Taken, bytes: &[u8]) -> io::Result<Option<usize>>
+    ensures count { IfOk result (λ some. unwrap_or some 0 ≤ length bytes.now) }
+    ensures taken { IfOk result (λ some. taken.new.bytes ≡ taken.old.bytes ++ take (unwrap_or some 0) bytes.now) }
+    ensures err { OnErr result (taken.new.bytes ≡ taken.old.bytes) }
     ensures same { stream.new ≡ stream.old }
 {
     match stream.write(bytes) {
         Ok(0) if !bytes.is_empty() => Err(Error::from(ErrorKind::WriteZero)),
-        Ok(count) => Ok(Some(count)),
+        Ok(count) => {
+            let bytes = &bytes[..count];
+            *taken = taken.after(&Passed { bytes });
+            Ok(Some(count))
+        }
         Err(error) => match error.kind() {
             ErrorKind::WouldBlock => Ok(None),
             ErrorKind::Interrupted => Ok(Some(0)),

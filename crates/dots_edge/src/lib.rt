@@ -30,6 +30,7 @@ mod peers;
 mod rest;
 mod seconds;
 mod sockets;
+mod taken;
 
 pub use file_socket_host::FileSocketHost;
 pub use host_file::{

@@ -1,0 +1,27 @@
+-- What becomes of what is sent on a connection.
+use Rattle.std.specs.Prelude.{◌≡◌, ℕ, ◌≤◌, ◌⊎◌, true, false, List, [], ◌++◌, length}
+use Rattle.std.specs.declared.time.Duration.{Duration}
+use Rattle.dots_edge.specs.declared.connection.Connection.{Connection}
+
+-- what was sent on it: the bytes that its socket took, and behind them those that are kept
+abbrev pub all_sent : Connection → List ℕ
+all_sent connection = connection.taken.bytes ++ connection.rest.bytes.items
+
+-- the socket took some of what was kept, its first bytes, or none; the others are still kept
+abbrev pub TookOn : Connection → Connection → Type 0
+TookOn old new = (all_sent new ≡ all_sent old) × (length old.taken.bytes ≤ length new.taken.bytes)
+
+-- these were sent behind all others; of what was kept and of these the socket took the first bytes, or none, and the others are kept
+abbrev pub TookOrKept : Connection → List ℕ → Connection → Type 0
+TookOrKept old bytes new = (all_sent new ≡ all_sent old ++ bytes) × (length old.taken.bytes ≤ length new.taken.bytes)
+
+-- it is of no use any more, and nothing is kept
+abbrev pub IsLost : Connection → Type 0
+IsLost connection = (connection.broken ≡ true) × (connection.rest.bytes.items ≡ [])
+
+-- What a turn leaves of what was kept, where the connection goes on: a byte of it went now, or none did.
+pub record HasWrittenOn (now : Duration) (old new : Connection) : Type 0 where
+  pub unbroken : new.broken ≡ false
+  pub took : TookOn old new
+  pub moved : (new.moved ≡ now) ⊎ ((new.moved ≡ old.moved) × (new.rest.bytes.items ≡ old.rest.bytes.items))
+  pub same : (new.asked ≡ old.asked) × (new.ready ≡ old.ready)
