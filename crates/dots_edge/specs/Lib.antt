@@ -2,6 +2,7 @@ pub mod Clocks
 pub mod Passing
 pub mod Events
 pub mod Sends
+pub mod Places
 pub mod Address
 pub mod Peers
 pub mod Ways

@@ -305,6 +305,13 @@ impl Connection {
         self.closing
     }
 
+    /// When it last moved, where the server has closed it.
+    pub fn closing_since(&self) -> Option<Duration>
+        ensures { result ≡ if self.now.closing then Some self.now.moved else None }
+    {
+        if self.closing { Some(self.moved) } else { None }
+    }
+
     /// The server has closed it. It lives until the rest is written.
     pub fn begin_to_close(&mut self)
         ensures { self.new ≡ record self.old { closing = true } }

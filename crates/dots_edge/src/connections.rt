@@ -1,10 +1,11 @@
-ghost use Rattle.std.specs.Prelude.{◌≡◌, ◌==◌, ◌<◌, ◌+◌, ◌-◌, ◌%◌, length, IfSome};
+ghost use Rattle.std.specs.Prelude.{◌≡◌, ◌==◌, ◌<◌, ◌+◌, ◌-◌, ◌%◌, ℕ, true, false, None, Some, is_some, if◌then◌else◌, length, vec_len, IfSome};
 ghost use Rattle.dots_host.specs.Acts.{IsWithin, OnFailed};
 ghost use Rattle.dots_host.specs.declared.TheConstants.{MAX_EVENT_BYTES};
 ghost use Rattle.dots_edge.specs.Restarts.{OnRestart};
 ghost use Rattle.dots_edge.specs.Events.{IsPiece};
 
 use crate::connection::{Connection, Piece};
+use crate::place::{close_at, closing_since, first_of, mark_at, send_at, turn_at};
 use dots_host::{MAX_EVENT_BYTES, NoMemory, Sent, What};
 use mio::net::TcpStream;
 use mio::{Registry, Token};
@@ -25,9 +26,12 @@ pub struct Connections {
     pub looks: usize,
     /// The place from which on stale connections are closed.
     swept: usize,
+    ghost sized: { vec_len places ≡ 128 },
 }
 
 impl Connections {
+    ghost use Rattle.dots_edge.specs.Places.{at_place, is_open, closing_since, AreTaken, MovedFirst, IsForOneMore, AreOpen, NoneCloses, SameBeside, SameOpen, OthersStay, ClosesAt, Follows};
+
     /// Places for connections, none of which is open.
     pub fn new(alloc: Global) -> Result<Connections, NoMemory> {
         let mut places = Vec::new(alloc);
@@ -41,9 +45,24 @@ impl Connections {
         })
     }
 
+    /// A place for one connection more: one where none is, and where each has one, that of the connection that moved longest ago of those
+    /// that the server has closed.
+    pub fn place_for_one(&self) -> Option<usize>
+        ensures range { IfSome result (λ place. place < 128) }
+        // One that is open for the server never gives its place up, and one that the server has closed only where no place is free.
+        ensures place { IfSome result (IsForOneMore self.now) }
+        ensures none { result ≡ None → AreOpen self.now }
+    {
+        match self.free_place() {
+            Some(place) => Some(place),
+            None => self.oldest_closing(),
+        }
+    }
+
     /// A place where no connection is.
-    pub fn free_place(&self) -> Option<usize>
-        ensures { IfSome result (λ place. place < 128) }
+    fn free_place(&self) -> Option<usize>
+        ensures place { IfSome result (λ place. (place < 128) × (at_place self.now place ≡ None)) }
+        ensures none { result ≡ None → AreTaken self.now 128 }
     {
         for place in 0..MAX_CONNECTIONS {
             if let Some(None) = self.places.get(place) {
@@ -53,10 +72,42 @@ impl Connections {
         None
     }
 
-    /// Puts a connection to its place.
-    pub fn open(&mut self, place: usize, stream: TcpStream, now: Duration)
-        ensures { self.new.looks ≡ 128 }
+    /// The place of the connection that moved longest ago of those that the server has closed.
+    fn oldest_closing(&self) -> Option<usize>
+        ensures place { IfSome result (λ place. (place < 128) × (is_some (closing_since (at_place self.now place)) ≡ true)) }
+        ensures oldest { IfSome result (MovedFirst self.now) }
+        ensures none { result ≡ None → NoneCloses self.now 128 }
     {
+        let mut first: Option<(usize, Duration)> = None;
+        for place in 0..MAX_CONNECTIONS {
+            first = first_of(first, place, self.closing_since(place));
+        }
+        match first {
+            Some((place, _)) => Some(place),
+            None => None,
+        }
+    }
+
+    /// When the connection at the place last moved, where the server has closed it.
+    fn closing_since(&self, place: usize) -> Option<Duration>
+        requires { place < 128 }
+        ensures { result ≡ closing_since (at_place self.now place) }
+    {
+        match self.places.get(place) {
+            Some(place) => closing_since(place),
+            None => None,
+        }
+    }
+
+    /// Puts a connection to its place. One that the server has closed ends there.
+    pub fn open(&mut self, place: usize, stream: TcpStream, now: Duration)
+        requires place { place < 128 }
+        requires over { is_open self.old place ≡ false }
+        ensures looks { self.new.looks ≡ 128 }
+        ensures opened { is_open self.new place ≡ true }
+        ensures beside { SameBeside self.old place self.new }
+    {
+        self.end(place);
         let alloc = self.alloc;
         if let Some(free) = self.places.get_mut(place) {
             *free = Some(Connection::new(alloc, stream, Token(place), now));
@@ -67,7 +118,9 @@ impl Connections {
     /// Lets the connection at the place go, and answers its number where the server hasn't closed it.
     fn end(&mut self, place: usize) -> Option<u32>
         requires { place < 128 }
-        ensures { IfSome result (λ conn. conn < 128) }
+        ensures answer { result ≡ if is_open self.old place then Some place else None }
+        ensures ended { at_place self.new place ≡ None }
+        ensures beside { SameBeside self.old place self.new }
     {
         let connection = self.places.get_mut(place)?.take()?;
         if connection.is_closing() {
@@ -87,10 +140,11 @@ impl Connections {
 
     /// Something may have come at a place, or its socket may take more.
     pub fn mark(&mut self, place: usize)
-        ensures { self.new.looks ≡ 128 }
+        ensures looks { self.new.looks ≡ 128 }
+        ensures open { SameOpen self.old self.new }
     {
-        if let Some(Some(connection)) = self.places.get_mut(place) {
-            connection.mark();
+        if let Some(place) = self.places.get_mut(place) {
+            mark_at(place);
         }
         self.looks = MAX_CONNECTIONS;
     }
@@ -106,6 +160,7 @@ impl Connections {
         ensures within { IfSome result (λ what. IsWithin what MAX_EVENT_BYTES) }
         ensures event { IfSome result (λ what. OnFailed what ⊥) }
         ensures restart { IfSome result (λ what. OnRestart what ⊥) }
+        ensures follows { Follows result self.old self.new }
     {
         for _ in 0..MAX_CONNECTIONS {
             if self.looks == 0 {
@@ -144,6 +199,7 @@ impl Connections {
         ensures within { IfSome result (λ what. IsWithin what MAX_EVENT_BYTES) }
         ensures event { IfSome result (λ what. OnFailed what ⊥) }
         ensures restart { IfSome result (λ what. OnRestart what ⊥) }
+        ensures follows { Follows result self.old self.new }
     {
         let conn = place as u32;
         match self.turn_of(place, into, now, registry) {
@@ -170,11 +226,12 @@ impl Connections {
         now: Duration,
         registry: &Registry,
     ) -> Piece
-        ensures { IsPiece result (length into.old) }
+        ensures piece { IsPiece result (length into.old) }
+        ensures open { SameOpen self.old self.new }
     {
         match self.places.get_mut(place) {
-            Some(Some(connection)) => connection.turn(into, now, registry),
-            _ => Piece::Nothing,
+            Some(place) => turn_at(place, into, now, registry),
+            None => Piece::Nothing,
         }
     }
 
@@ -188,7 +245,9 @@ impl Connections {
     /// Closes the next stale connection, and answers its number where the server hasn't closed it. The rest of any other is tried again,
     /// since a wait tells of a socket only once a good part of its buffer is free.
     pub fn next_stale(&mut self, now: Duration) -> Option<u32>
-        ensures { IfSome result (λ conn. conn < 128) }
+        ensures range { IfSome result (λ conn. conn < 128) }
+        ensures ended { IfSome result (ClosesAt self.old self.new) }
+        ensures none { result ≡ None → SameOpen self.old self.new }
     {
         for _ in 0..MAX_CONNECTIONS {
             if self.swept >= MAX_CONNECTIONS {
@@ -206,7 +265,9 @@ impl Connections {
     }
 
     /// The socket of the place may take some of its rest.
-    fn try_again(&mut self, place: usize) {
+    fn try_again(&mut self, place: usize)
+        ensures { SameOpen self.old self.new }
+    {
         if self.has_rest(place) {
             self.mark(place);
         }
@@ -227,41 +288,25 @@ impl Connections {
     }
 
     /// Sends on a connection. It is lost where none of that number is open.
-    pub fn send(&mut self, conn: u32, bytes: &[u8], now: Duration, registry: &Registry) -> Sent {
-        let sent = match self.places.get_mut(conn as usize) {
-            Some(Some(connection)) if !connection.is_closing() => {
-                connection.send(bytes, now, registry)
-            }
-            _ => return Sent::Lost,
-        };
+    pub fn send(&mut self, conn: u32, bytes: &[u8], now: Duration, registry: &Registry) -> Sent
+        ensures done { result ≡ Sent.Done → is_open self.old conn ≡ true }
+        ensures open { SameOpen self.old self.new }
+    {
         self.looks = MAX_CONNECTIONS;
-        sent
+        match self.places.get_mut(conn as usize) {
+            Some(place) => send_at(place, bytes, now, registry),
+            None => Sent::Lost,
+        }
     }
 
     /// Closes a connection, where something is kept once that is written. It is lost where none of that number is open.
-    pub fn close(&mut self, conn: u32) -> Sent {
+    pub fn close(&mut self, conn: u32) -> Sent
+        ensures done { result ≡ Sent.Done → ClosesAt self.old self.new conn }
+        ensures lost { result ≡ Sent.Lost → (is_open self.old conn ≡ false) × SameOpen self.old self.new }
+    {
         match self.places.get_mut(conn as usize) {
             Some(place) => close_at(place),
             None => Sent::Lost,
         }
-    }
-}
-
-/// Closes the connection of the place.
-fn close_at(place: &mut Option<Connection>) -> Sent {
-    match place {
-        Some(connection) if connection.is_closing() => return Sent::Lost,
-        Some(connection) if connection.has_rest() => {
-            connection.begin_to_close();
-            return Sent::Done;
-        }
-        _ => {}
-    }
-    match place.take() {
-        Some(connection) => {
-            connection.close();
-            Sent::Done
-        }
-        None => Sent::Lost,
     }
 }

@@ -1,10 +1,11 @@
 //! What comes to the sockets, in turn.
 
-ghost use Rattle.std.specs.Prelude.{◌≡◌, length, true, false, IfOk, IfSome};
+ghost use Rattle.std.specs.Prelude.{◌≡◌, length, true, false, None, Some, IfOk, OnErr, IfSome};
 ghost use Rattle.dots_host.specs.Acts.{IsWithin, OnFailed};
 ghost use Rattle.dots_host.specs.declared.TheConstants.{MAX_EVENT_BYTES};
 ghost use Rattle.dots_edge.specs.Restarts.{OnRestart};
 ghost use Rattle.dots_edge.specs.Drained.{IsDrained, tried_again};
+ghost use Rattle.dots_edge.specs.Places.{OnOpened, IsForOneMore, OpensAt, SameOpen, Follows};
 
 use crate::connections::Connections;
 use crate::passing::Ticks;
@@ -124,6 +125,8 @@ impl Ends {
         ensures within { IfOk result (λ what. IsWithin what MAX_EVENT_BYTES) }
         ensures event { IfOk result (λ what. OnFailed what ⊥) }
         ensures restart { IfOk result (λ what. OnRestart what ⊥) }
+        // A number is opened that wasn't open for the server, one that was is closed, and none else begins or ends to be.
+        ensures follows { IfOk result (λ what. Follows (Some what) self.old.connections self.new.connections) }
     {
         for _ in 0..u64::MAX {
             self.time = rt.monotonic()?;
@@ -143,6 +146,8 @@ impl Ends {
         ensures within { IfOk result (λ found. IfSome found (λ what. IsWithin what MAX_EVENT_BYTES)) }
         ensures event { IfOk result (λ found. IfSome found (λ what. OnFailed what ⊥)) }
         ensures restart { IfOk result (λ found. IfSome found (λ what. OnRestart what ⊥)) }
+        ensures follows { IfOk result (λ found. Follows found self.old.connections self.new.connections) }
+        ensures err { OnErr result (SameOpen self.old.connections self.new.connections) }
     {
         if self.ticks.is_due(self.time) {
             self.tick();
@@ -185,12 +190,12 @@ impl Ends {
         !self.waiting.datagrams && !self.may_accept() && self.connections.is_drained()
     }
 
-    /// Whether a connection may wait, and a place is free for it.
+    /// Whether a connection may wait, and there is a place for it.
     fn may_accept(&self) -> bool
         ensures { result ≡ true → self.now.waiting.connections ≡ Accepting.Yes }
     {
         match self.waiting.connections {
-            Accepting::Yes => self.connections.free_place().is_some(),
+            Accepting::Yes => self.connections.place_for_one().is_some(),
             _ => false,
         }
     }
@@ -199,13 +204,16 @@ impl Ends {
     /// something is there, since no wait tells of it again.
     fn rest(&mut self) -> io::Result<()>
         requires { IsDrained self.old }
+        ensures { SameOpen self.old.connections self.new.connections }
     {
         let left = self.ticks.left(self.time);
         self.look(left)
     }
 
     /// Looks at the sockets, and waits until something comes or the time is over.
-    fn look(&mut self, limit: Duration) -> io::Result<()> {
+    fn look(&mut self, limit: Duration) -> io::Result<()>
+        ensures { SameOpen self.old.connections self.new.connections }
+    {
         self.sockets.wait(&mut self.events, limit)?;
         self.since_look = 0;
         note(&self.events, &mut self.waiting, &mut self.connections);
@@ -218,6 +226,8 @@ impl Ends {
         ensures within { IfOk result (λ found. IfSome found (λ what. IsWithin what MAX_EVENT_BYTES)) }
         ensures event { IfOk result (λ found. IfSome found (λ what. OnFailed what ⊥)) }
         ensures restart { IfOk result (λ found. IfSome found (λ what. OnRestart what ⊥)) }
+        ensures same { self.new.connections ≡ self.old.connections }
+        ensures none { IfOk result (λ found. Follows found self.old.connections self.new.connections) }
     {
         if !self.waiting.datagrams {
             return Ok(None);
@@ -246,6 +256,7 @@ impl Ends {
         ensures within { IfSome result (λ what. IsWithin what MAX_EVENT_BYTES) }
         ensures event { IfSome result (λ what. OnFailed what ⊥) }
         ensures restart { IfSome result (λ what. OnRestart what ⊥) }
+        ensures follows { Follows result self.old.connections self.new.connections }
     {
         self.opens_first = !self.opens_first;
         if self.opens_first {
@@ -266,21 +277,27 @@ impl Ends {
         ensures within { IfSome result (λ what. IsWithin what MAX_EVENT_BYTES) }
         ensures event { IfSome result (λ what. OnFailed what ⊥) }
         ensures restart { IfSome result (λ what. OnRestart what ⊥) }
+        ensures follows { Follows result self.old.connections self.new.connections }
     {
         self.connections
             .next_piece(into, self.time, self.sockets.registry())
     }
 
-    /// A new connection, where a place is free.
+    /// A new connection, where there is a place for it.
     fn next_opened(&mut self) -> Option<What>
+        // Where no place was free that of one that the server has closed is taken, and no other connection ends for it.
+        ensures place { OnOpened result (IsForOneMore self.old.connections) }
+        ensures opened { OnOpened result (OpensAt self.old.connections self.new.connections) }
+        ensures none { result ≡ None → self.new.connections ≡ self.old.connections }
         ensures within { IfSome result (λ what. IsWithin what MAX_EVENT_BYTES) }
         ensures event { IfSome result (λ what. OnFailed what ⊥) }
         ensures restart { IfSome result (λ what. OnRestart what ⊥) }
+        ensures follows { Follows result self.old.connections self.new.connections }
     {
         if !self.may_accept() {
             return None;
         }
-        let place = self.connections.free_place()?;
+        let place = self.connections.place_for_one()?;
         for _ in 0..PASSED_AT_ONCE {
             match self.sockets.accept(place) {
                 Accepted::Stream { stream, from } => {
@@ -320,7 +337,9 @@ impl Ends {
 }
 
 /// Takes in what a wait told.
-fn note(events: &Events, waiting: &mut Waiting, connections: &mut Connections) {
+fn note(events: &Events, waiting: &mut Waiting, connections: &mut Connections)
+    ensures { SameOpen connections.old connections.new }
+{
     for event in events {
         let place = event.token().0;
         if place < SIGNAL {

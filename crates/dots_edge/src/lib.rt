@@ -13,8 +13,13 @@
 //! connection, a datagram, then one piece of each connection in turn. After 64 events at most it looks at the sockets without
 //! waiting, and what came to the connections has a turn.
 //!
-//! What a socket doesn't take of a send on a connection is kept, at most 524,288 bytes of each, and in a turn of its connection what is
-//! kept is written on. Nothing is read from the connection before all is written.
+//! What a socket doesn't take of a send on a connection is kept, at most 524,288 bytes of each. In a turn of its connection, and before more
+//! is sent on it, what is kept is written on. Nothing is read from the connection before all is written. Where the server closes it over
+//! what is kept, it lives until that is written, or until a new connection finds no place and this is the one that moved longest ago of
+//! those that the server has closed.
+//!
+//! What a socket took is kept in a log that exists in proofs alone: the bytes that were sent on a connection are those that its socket took
+//! and, behind them, those that are kept. That the socket got them is what `connection::write_once` says, and isn't proved.
 #![tactic(auto)]
 
 mod address;
@@ -27,6 +32,7 @@ mod journal_file;
 mod journal_reader;
 mod passing;
 mod peers;
+mod place;
 mod rest;
 mod seconds;
 mod sockets;

@@ -1,0 +1,94 @@
+-- The places of the connections, and which are open for the server.
+use Rattle.std.specs.Prelude.{◌≡◌, ◌≢◌, ℕ, ◌<◌, ◌≤◌, Bool, true, false, not, Option, Some, None, is_some, IfSome, nat_lt, get_or, if◌then◌else◌, ⊤}
+use Rattle.std.specs.Duration.{as_nanos}
+use Rattle.dots_host.specs.declared.event.What.{What}
+use Rattle.dots_host.specs.declared.event.What.TheVariants as what
+use Rattle.std.specs.declared.time.Duration.{Duration}
+use Rattle.dots_edge.specs.declared.connection.Connection.{Connection}
+use Rattle.dots_edge.specs.declared.connections.Connections.{Connections}
+
+-- the connection at the place, where one is
+abbrev pub at_place : Connections → ℕ → Option Connection
+at_place all place = get_or all.places.items place None
+
+-- whether a connection is there that the server hasn't closed
+abbrev pub is_opened : Option Connection → Bool
+is_opened None = false
+is_opened (Some connection) = not connection.closing
+
+-- whether the connection of the number is open for the server
+abbrev pub is_open : Connections → ℕ → Bool
+is_open all place = is_opened (at_place all place)
+
+-- when a connection last moved that the server has closed
+abbrev pub closing_since : Option Connection → Option Duration
+closing_since None = None
+closing_since (Some connection) = if connection.closing then Some connection.moved else None
+
+-- no place is free
+abbrev pub AreTaken : Connections → ℕ → Type 0
+AreTaken all count = (place : ℕ) → place < count → is_some (at_place all place) ≡ true
+
+-- which moved first, with its place: what did so far, or one more
+abbrev pub first_of : Option (ℕ × Duration) → ℕ → Option Duration → Option (ℕ × Duration)
+first_of first place None = first
+first_of None place (Some since) = Some (place, since)
+first_of (Some first) place (Some since) = if nat_lt (as_nanos since) (as_nanos first.1) then Some (place, since) else Some first
+
+-- each connection among the first so many that the server has closed moved at this time or later
+abbrev pub MovedSince : Connections → ℕ → Duration → Type 0
+MovedSince all count first = (other : ℕ) → other < count → IfSome (closing_since (at_place all other)) (λ moved. as_nanos first ≤ as_nanos moved)
+
+-- where the server has closed the connection of the place, it moved longest ago of all that it has closed
+abbrev pub MovedFirst : Connections → ℕ → Type 0
+MovedFirst all place = IfSome (closing_since (at_place all place)) (λ first. MovedSince all 128 first)
+
+-- none among the first so many is one that the server has closed
+abbrev pub NoneCloses : Connections → ℕ → Type 0
+NoneCloses all count = (other : ℕ) → other < count → closing_since (at_place all other) ≡ None
+
+-- of those among the first so many that the server has closed, this one moved first; none where there is none
+abbrev pub IsFirst : Connections → ℕ → Option (ℕ × Duration) → Type 0
+IsFirst all count None = NoneCloses all count
+IsFirst all count (Some first) = (first.0 < 128) × (closing_since (at_place all first.0) ≡ Some first.1) × MovedSince all count first.1
+
+-- A place for one connection more: one where none is, and where each has one, that of the connection that moved longest ago of those that the
+-- server has closed.
+abbrev pub IsForOneMore : Connections → ℕ → Type 0
+IsForOneMore all place = (is_open all place ≡ false) × (is_some (at_place all place) ≡ true → AreTaken all 128) × MovedFirst all place
+
+-- each place has a connection that is open for the server
+abbrev pub AreOpen : Connections → Type 0
+AreOpen all = (place : ℕ) → place < 128 → is_open all place ≡ true
+
+-- at all other places everything is as before
+abbrev pub SameBeside : Connections → ℕ → Connections → Type 0
+SameBeside old place new = (other : ℕ) → other ≢ place → at_place new other ≡ at_place old other
+
+-- a connection that wasn't open for the server is opened at the place, and nothing else changes
+abbrev pub OpensAt : Connections → Connections → ℕ → Type 0
+OpensAt old new place = (is_open old place ≡ false) × (is_open new place ≡ true) × SameBeside old place new
+
+-- where a new connection is handed in, this holds of its number
+abbrev pub OnOpened : Option What → (ℕ → Type 0) → Type 0
+OnOpened (Some (what.Opened conn from)) P = P conn
+OnOpened _ P = ⊤
+
+-- the same connections are open for the server
+abbrev pub SameOpen : Connections → Connections → Type 0
+SameOpen old new = (conn : ℕ) → is_open new conn ≡ is_open old conn
+
+-- of all others it is as before whether they are open for the server
+abbrev pub OthersStay : Connections → ℕ → Connections → Type 0
+OthersStay old conn new = (other : ℕ) → other ≢ conn → is_open new other ≡ is_open old other
+
+-- a connection that was open for the server isn't any more
+abbrev pub ClosesAt : Connections → Connections → ℕ → Type 0
+ClosesAt old new conn = (is_open old conn ≡ true) × (is_open new conn ≡ false) × OthersStay old conn new
+
+-- What an event leaves of the connections that are open for the server: one that is opened wasn't, one that is closed was, and of all others it
+-- is as before.
+abbrev pub Follows : Option What → Connections → Connections → Type 0
+Follows (Some (what.Opened conn from)) old new = (is_open old conn ≡ false) × (is_open new conn ≡ true) × OthersStay old conn new
+Follows (Some (what.Closed conn)) old new = ClosesAt old new conn
+Follows _ old new = SameOpen old new
