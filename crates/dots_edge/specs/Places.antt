@@ -1,6 +1,10 @@
 -- The places of the connections, and which are open for the server.
 use Rattle.std.specs.Prelude.{◌≡◌, ◌≢◌, ℕ, ◌<◌, ◌≤◌, Bool, true, false, not, Option, Some, None, is_some, IfSome, nat_lt, get_or, if◌then◌else◌, ⊤}
 use Rattle.std.specs.Duration.{as_nanos}
+use Rattle.dots_host.specs.declared.out.Out.{Out}
+use Rattle.dots_host.specs.declared.out.Out.TheVariants as out
+use Rattle.dots_host.specs.declared.out.Sent.{Sent}
+use Rattle.dots_host.specs.declared.out.Sent.TheVariants as sent
 use Rattle.dots_host.specs.declared.event.What.{What}
 use Rattle.dots_host.specs.declared.event.What.TheVariants as what
 use Rattle.std.specs.declared.time.Duration.{Duration}
@@ -92,3 +96,12 @@ abbrev pub Follows : Option What → Connections → Connections → Type 0
 Follows (Some (what.Opened conn from)) old new = (is_open old conn ≡ false) × (is_open new conn ≡ true) × OthersStay old conn new
 Follows (Some (what.Closed conn)) old new = ClosesAt old new conn
 Follows _ old new = SameOpen old new
+
+-- What a send leaves of the connections that are open for the server: one that it closes isn't any more, and of all others it is as before. What
+-- is done was so on a connection that is open.
+abbrev pub IsGiven : Out → Sent → Connections → Connections → Type 0
+IsGiven (out.Close conn) sent.Done old new = ClosesAt old new conn
+IsGiven (out.Close conn) sent.Lost old new = (is_open old conn ≡ false) × SameOpen old new
+IsGiven (out.Conn conn bytes) sent.Done old new = (is_open old conn ≡ true) × SameOpen old new
+IsGiven (out.Conn conn bytes) sent.Lost old new = SameOpen old new
+IsGiven (out.To peer bytes) _ old new = SameOpen old new

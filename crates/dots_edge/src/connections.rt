@@ -1,4 +1,4 @@
-ghost use Rattle.std.specs.Prelude.{◌≡◌, ◌==◌, ◌<◌, ◌+◌, ◌-◌, ◌%◌, ℕ, true, false, None, Some, is_some, if◌then◌else◌, length, vec_len, IfSome};
+ghost use Rattle.std.specs.Prelude.{◌≡◌, ◌==◌, ◌<◌, ◌+◌, ◌-◌, ◌%◌, ℕ, true, false, None, Some, is_some, if◌then◌else◌, length, vec_len, IfOk, IfSome};
 ghost use Rattle.dots_host.specs.Acts.{IsWithin, OnFailed};
 ghost use Rattle.dots_host.specs.declared.TheConstants.{MAX_EVENT_BYTES};
 ghost use Rattle.dots_edge.specs.Restarts.{OnRestart};
@@ -33,9 +33,14 @@ impl Connections {
     ghost use Rattle.dots_edge.specs.Places.{at_place, is_open, closing_since, AreTaken, MovedFirst, IsForOneMore, AreOpen, NoneCloses, SameBeside, SameOpen, OthersStay, ClosesAt, Follows};
 
     /// Places for connections, none of which is open.
-    pub fn new(alloc: Global) -> Result<Connections, NoMemory> {
-        let mut places = Vec::new(alloc);
-        places.resize_with(MAX_CONNECTIONS, || None)?;
+    #[tactic(auto, using(crate::proofs::PlaceLemmas::none_more))]
+    pub fn new(alloc: Global) -> Result<Connections, NoMemory>
+        ensures { IfOk result (λ all. (conn : ℕ) → at_place all conn ≡ None) }
+    {
+        let mut places = Vec::with_capacity(alloc, MAX_CONNECTIONS)?;
+        for _ in 0..MAX_CONNECTIONS {
+            places.push_reserved(None);
+        }
         Ok(Connections {
             alloc,
             places,

@@ -5,7 +5,7 @@ ghost use Rattle.dots_host.specs.Acts.{IsWithin, OnFailed};
 ghost use Rattle.dots_host.specs.declared.TheConstants.{MAX_EVENT_BYTES};
 ghost use Rattle.dots_edge.specs.Restarts.{OnRestart};
 ghost use Rattle.dots_edge.specs.Drained.{IsDrained, tried_again};
-ghost use Rattle.dots_edge.specs.Places.{OnOpened, IsForOneMore, OpensAt, SameOpen, Follows};
+ghost use Rattle.dots_edge.specs.Places.{OnOpened, IsForOneMore, OpensAt, SameOpen, Follows, IsGiven};
 
 use crate::connections::Connections;
 use crate::passing::Ticks;
@@ -321,7 +321,10 @@ impl Ends {
     }
 
     /// Sends.
-    pub fn send(&mut self, out: &Out) -> Sent {
+    pub fn send(&mut self, out: &Out) -> Sent
+        // Only what is open for the server is sent on or closed, and nothing else begins or ends to be open.
+        ensures { IsGiven out.now result self.old.connections self.new.connections }
+    {
         match out {
             Out::To { peer, bytes } => match self.peers.way_for(*peer, *bytes) {
                 Some(way) => self.sockets.send_to(*bytes, way),
