@@ -2,15 +2,16 @@
 //!
 //! Tables stand between lines of three equal signs. Each begins with a disk of zeros, on which a store opens. The steps of a table are put
 //! to it: exchanges are kept, the bytes of a slot of the first half are read, and a store opens anew on what the disk holds, as after a crash.
-//! It tells the numbers of the exchanges and the next one.
+//! It tells the numbers of the exchanges and the next one. Those that are young at a time wait again in a gateway, which has room for as many
+//! as may be young.
 
 use crate::row::Row;
 use coap_message::Token;
 use dots_disk::{Disk, MemoryDisk};
-use dots_gateway::Exchange;
+use dots_gateway::{Exchange, GatewayCore};
 use dots_history::MessageKey;
 use dots_settings::{Settings, settings_of};
-use gateway_store::{ExchangeList, Store};
+use gateway_store::Store;
 use slot_journal::bytes_needed;
 use std::alloc::Global;
 use std::process::Abort;
@@ -30,7 +31,8 @@ capacity remembered 1
 
 /// Exchanges whose bytes on the disk are those of the layout of a record, and a crash between two of them; numbers and times that go back,
 /// which are not kept; a full half, of which the exchanges that are at most 246 seconds old are left, and those alone, though the
-/// last is left whatever its age; and as many young exchanges as there may be.
+/// last is left whatever its age; as many young exchanges as there may be; and those that wait again at a time, which isn't before that of
+/// the last one.
 const TABLES: &str = "\
 open = next 1
 keep 1 0 non 330 4a 1000 = kept
@@ -57,6 +59,19 @@ fill 1 24 1000 123 = kept
 keep 30 0 non 1 - 100000 = kept
 open = 24 30 next 31
 ===
+wait 1000 = next 1
+fill 1 24 1000 123 = kept
+wait 0 = 22 23 24 next 25
+wait 3952 = 22 23 24 next 25
+wait 3953 = 23 24 next 25
+wait 4075 = 23 24 next 25
+wait 4198 = 24 next 25
+wait 4199 = next 25
+===
+fill 1 16 1000 0 = kept
+wait 1246 = 1 2 3 4 5 6 7 8 9 10 11 12 13 14 15 16 next 17
+wait 1247 = next 17
+===
 fill 1 16 1000 0 = kept
 keep 17 0 non 1 - 1246 = no
 keep 17 0 non 1 - 1247 = kept
@@ -70,9 +85,9 @@ struct Opened {
 }
 
 /// The numbers of exchanges and the next one, as text.
-fn worded(alloc: Global, exchanges: &ExchangeList, next: u64) -> Option<String> {
+fn worded(alloc: Global, exchanges: &[Exchange], next: u64) -> Option<String> {
     let mut text = String::new(alloc);
-    for exchange in exchanges.items() {
+    for exchange in exchanges {
         let number = exchange.number;
         let word = format!(in alloc; "{number} ").ok()?;
         text.push_str(word.as_str()).ok()?;
@@ -82,17 +97,37 @@ fn worded(alloc: Global, exchanges: &ExchangeList, next: u64) -> Option<String> 
     Some(text)
 }
 
-/// A store on a disk with these bytes, and what it tells of its exchanges.
-fn open(alloc: Global, settings: &Settings, image: &[u8]) -> Option<(Opened, String)> {
+/// A disk with these bytes.
+fn disk_with(alloc: Global, settings: &Settings, image: &[u8]) -> Option<MemoryDisk> {
     let size = bytes_needed(settings);
     if image.len() as u64 > size {
         return None;
     }
     let mut disk = MemoryDisk::new(alloc, size);
     disk.load(image).ok()?;
+    Some(disk)
+}
+
+/// A store on a disk with these bytes, and what it tells of its exchanges.
+fn open(alloc: Global, settings: &Settings, image: &[u8]) -> Option<(Opened, String)> {
+    let mut disk = disk_with(alloc, settings, image)?;
     let (store, exchanges, next) = Store::open(alloc, &mut disk, settings).ok()?;
-    let text = worded(alloc, &exchanges, next)?;
+    let text = worded(alloc, exchanges.items(), next)?;
     Some((Opened { store, disk }, text))
+}
+
+/// Lets the young exchanges of a store that opens on these bytes wait again in a gateway, and tells them, where as many wait then.
+fn wait(alloc: Global, settings: &Settings, image: &[u8], row: &mut Row<'_>) -> Option<String> {
+    let now = row.number(" ");
+    let mut disk = disk_with(alloc, settings, image)?;
+    let (store, _, next) = Store::open(alloc, &mut disk, settings).ok()?;
+    let mut core = GatewayCore::new(alloc, settings, 9, store.most_young()).ok()?;
+    let young = store.young(now);
+    core.restore(young, next);
+    if core.waiting(now) != young.len() {
+        return None;
+    }
+    worded(alloc, young, next)
 }
 
 /// Keeps an exchange where it may be kept.
@@ -181,6 +216,7 @@ fn step(
 ) -> Option<(Opened, String)> {
     let text = match row.text(" ") {
         "open" => return open(alloc, settings, opened.disk.image()),
+        "wait" => wait(alloc, settings, opened.disk.image(), row)?,
         "keep" => {
             let exchange = exchange(alloc, row)?;
             String::from_str(alloc, keep(&mut opened, &exchange)).ok()?
