@@ -1,0 +1,9 @@
+pub mod Telling
+pub mod Deciding
+pub mod Adding
+pub mod Granting
+pub mod OneGrant
+pub mod Kept
+pub mod Others
+pub mod Reading
+pub mod Forwarding

@@ -1,0 +1,4 @@
+pub mod Adding
+pub mod Granting
+pub mod Reading
+pub mod Forwarding
