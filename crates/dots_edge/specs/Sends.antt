@@ -2,6 +2,8 @@
 use Rattle.std.specs.Prelude.{◌≡◌, ℕ, ◌≤◌, ◌⊎◌, true, false, List, [], ◌++◌, length}
 use Rattle.std.specs.declared.time.Duration.{Duration}
 use Rattle.dots_edge.specs.declared.connection.Connection.{Connection}
+use Rattle.dots_edge.specs.declared.connection.Piece.{Piece}
+use Rattle.dots_edge.specs.declared.connection.Piece.TheVariants as piece
 
 -- what was sent on it: the bytes that its socket took, and behind them those that are kept
 abbrev pub all_sent : Connection → List ℕ
@@ -19,9 +21,12 @@ TookOrKept old bytes new = (all_sent new ≡ all_sent old ++ bytes) × (length o
 abbrev pub IsLost : Connection → Type 0
 IsLost connection = (connection.broken ≡ true) × (connection.rest.bytes.items ≡ [])
 
--- What a turn leaves of what was kept, where the connection goes on: a byte of it went now, or none did.
-pub record HasWrittenOn (now : Duration) (old new : Connection) : Type 0 where
+-- What a turn leaves of what was kept, where none of it is lost: a byte of it went now, or none did. The connection ends exactly where the server has
+-- closed it and nothing is kept any more.
+pub record HasWrittenOn (result : Piece) (now : Duration) (old new : Connection) : Type 0 where
   pub unbroken : new.broken ≡ false
   pub took : TookOn old new
   pub moved : (new.moved ≡ now) ⊎ ((new.moved ≡ old.moved) × (new.rest.bytes.items ≡ old.rest.bytes.items))
+  pub ends : result ≡ piece.Ended → (new.closing ≡ true) × (new.rest.bytes.items ≡ [])
+  pub ended : new.closing ≡ true → new.rest.bytes.items ≡ [] → result ≡ piece.Ended
   pub same : (new.asked ≡ old.asked) × (new.ready ≡ old.ready)

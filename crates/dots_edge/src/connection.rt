@@ -57,7 +57,7 @@ pub struct Connection {
     asked: Option<Duration>,
     /// Whether bytes of a send were lost.
     broken: bool,
-    /// Whether the server has closed it. It lives until the rest is written.
+    /// Whether the server has closed it. It lives until the rest is written or a new connection needs its place.
     closing: bool,
     /// What of the sends the socket took.
     taken: Taken,
@@ -115,7 +115,7 @@ impl Connection {
         ensures rest { 0 < length self.old.rest.bytes.items → IsPiece result 0 × (into.new ≡ into.old) }
         // What is kept goes on in its order, or all of it is lost and the connection ends.
         ensures written { 0 < length self.old.rest.bytes.items → self.old.broken ≡ false →
-            HasWrittenOn now self.old self.new ⊎ (IsLost self.new × (result ≡ Piece.Ended)) }
+            HasWrittenOn result now self.old self.new ⊎ (IsLost self.new × (result ≡ Piece.Ended)) }
         // Where nothing is kept it is a read, which changes nothing else.
         ensures after { self.old.rest.bytes.items ≡ [] → AfterRead result now self.old self.new }
         ensures kept { self.old.rest.bytes.items ≡ [] →
@@ -168,9 +168,10 @@ impl Connection {
 
     /// Writes on what is kept, where the socket may take some of it.
     fn write_on(&mut self, now: Duration, registry: &Registry) -> Piece
-        requires { self.old.broken ≡ false }
+        requires unbroken { self.old.broken ≡ false }
+        requires rest { 0 < length self.old.rest.bytes.items }
         ensures piece { IsPiece result 0 }
-        ensures written { HasWrittenOn now self.old self.new ⊎ (IsLost self.new × (result ≡ Piece.Ended)) }
+        ensures written { HasWrittenOn result now self.old self.new ⊎ (IsLost self.new × (result ≡ Piece.Ended)) }
         ensures closing { self.new.closing ≡ self.old.closing }
     {
         if !self.takes {
@@ -210,8 +211,8 @@ impl Connection {
         ensures went { (self.new ≡ record self.old { moved = if count == 0 then self.old.moved else now; told = self.new.told })
             ⊎ (IsLost self.new × (result ≡ Piece.Ended)) }
         ensures closing { self.new.closing ≡ self.old.closing }
-        // It ends there alone, or since it is lost.
-        ensures ends { result ≡ Piece.Ended → self.new.rest.bytes.items ≡ [] }
+        ensures ends { result ≡ Piece.Ended → IsLost self.new ⊎ ((self.new.closing ≡ true) × (self.new.rest.bytes.items ≡ [])) }
+        ensures ended { self.new.closing ≡ true → self.new.rest.bytes.items ≡ [] → result ≡ Piece.Ended }
     {
         if count > 0 {
             self.moved = now;
@@ -312,7 +313,7 @@ impl Connection {
         if self.closing { Some(self.moved) } else { None }
     }
 
-    /// The server has closed it. It lives until the rest is written.
+    /// The server has closed it. It lives until the rest is written or a new connection needs its place.
     pub fn begin_to_close(&mut self)
         ensures { self.new ≡ record self.old { closing = true } }
     {
