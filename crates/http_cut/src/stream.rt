@@ -59,10 +59,7 @@ impl Stream {
         ensures held { self.new ≡ self.old ++ take result piece.now }
         ensures bound { length self.new ≤ 16384 }
     {
-        if piece.is_empty() {
-            return 0;
-        }
-        self.look_up_need();
+        self.look_up_need(piece);
         let count = piece.len().min(GREATEST_HELD - self.bytes.len());
         let came = &piece[..count];
         self.place = self.place.behind(came);
@@ -70,11 +67,11 @@ impl Stream {
         count
     }
 
-    /// Looks up how many bytes the request at the front needs, once its head is there.
-    fn look_up_need(&mut self)
+    /// Looks up how many bytes the request at the front needs, once its head is there, as more bytes come.
+    fn look_up_need(&mut self, piece: &[u8])
         ensures { self.new ≡ self.old }
     {
-        if self.place.is_end() && self.needed.is_none() {
+        if !piece.is_empty() && self.place.is_end() && self.needed.is_none() {
             self.needed = Some(needed(self.bytes.as_slice()));
         }
     }
