@@ -1,0 +1,10 @@
+pub mod Ending
+pub mod Following
+pub mod Fresh
+pub mod Joining
+pub mod Opening
+pub mod Restarting
+pub mod Runs
+pub mod Storing
+pub mod Surviving
+pub mod Turning
