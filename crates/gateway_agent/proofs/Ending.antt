@@ -6,16 +6,28 @@ use Rattle.dots_host.proofs.RunLemmas.{added_weaker}
 use Rattle.dots_disk.specs.Media.{Media}
 use Rattle.dots_disk.specs.Becoming.{Leaves, RestsWith}
 use Rattle.dots_disk.specs.Beside.{KeepsActs}
+use Rattle.slot_store.proofs.DiskReading.{sees_at_rest}
+use Rattle.slot_store.proofs.Steps.{leaves_as}
+use Rattle.slot_store.specs.Gates.{Sees}
 use Rattle.slot_store.specs.Opening.{Is}
+use Rattle.slot_journal.specs.DiskEntries.{Holds}
+use Rattle.slot_journal.specs.Sizes.{slots_of}
 use Rattle.dots_settings.specs.Settings.{SettingsValue}
+use Rattle.dots_history.specs.declared.entry.Entry.{Entry}
+use Rattle.gateway_store.specs.Crashes.{HoldsThe}
+use Rattle.gateway_store.specs.Exchanges.{IsStore, most_young}
+use Rattle.gateway_store.specs.Forms.{entries_of}
+use Rattle.gateway_store.specs.Stores.{IsOn}
 use Rattle.std.specs.Prelude.{Err}
 use Rattle.gateway_agent.specs.declared.stopping.GatewayHalt.{GatewayHalt}
 use Rattle.gateway_agent.specs.declared.stopping.GatewayHalt.TheVariants as halt
 use Rattle.gateway_agent.specs.declared.stopping.GatewayEnding.TheVariants as ending
-use Rattle.gateway_agent.specs.Passing.{GatewayState}
+use Rattle.gateway_agent.specs.Passing.{GatewayState, opened}
+use Rattle.gateway_agent.specs.Keeping.{AgentValue, IsFor, IsIn}
 use Rattle.gateway_agent.specs.Turning.{HoldsAlike, time_in}
 use Rattle.gateway_agent.specs.Surviving.{past_of}
-use Rattle.gateway_agent.specs.Running.{Answer, Came, Completes, HasCome, IsAtRest, IsFollowed, IsFound, NeverRestarts}
+use Rattle.gateway_agent.specs.Running.{Answer, Came, Completes, HasCome, HasRun, IsAtRest, IsFollowed, IsFound, NeverRestarts}
+use Rattle.gateway_agent.proofs.Runs.{own_time, the_holds}
 use Rattle.gateway_agent.proofs.Surviving.{leaves_past, none_earlier, survives_opening}
 use Rattle.gateway_agent.proofs.Turning.{added_behind}
 
@@ -55,6 +67,35 @@ came_since settings most start how first mid now Rests xs ys zs end keeps goes l
             ),
       )));
 }
+
+-- What a gateway has done that opened a store: it runs from what the disk held.
+pub has_run : (settings : SettingsValue) (upstream : ℕ) (now : AgentValue) (how : Answer) (first mid end : Option Media) (xs ys zs : Option (List Timed))
+    → KeepsActs xs ys → Added ys zs (λ _. Unit {0}) → IsFor settings upstream now → IsIn now (opened settings upstream now.store.exchanges 0)
+    → ((seen : ℕ → ℕ) → Sees first seen → HoldsThe settings now.store.exchanges seen × RestsWith mid (IsOn settings now.store))
+    → ((seen : ℕ → ℕ) (entries : List Entry) → RestsWith first (Is seen) → Holds settings seen entries → Leaves first mid (λ image. Holds settings image entries))
+    → ((start : GatewayState) → IsIn now start → IsFollowed (RestsWith mid (IsOn settings now.store)) ys zs
+    → (last : Owing GatewayState) × Came settings (most_young (slots_of settings)) start how mid end (RestsWith mid (IsOn settings now.store)) ys zs last)
+    → HasRun settings upstream how first end xs zs
+has_run settings upstream now how first mid end xs ys zs keeps adds of is_in opened_it moments comes =
+    let most = most_young (slots_of settings) in
+    let start = opened settings upstream now.store.exchanges 0 in
+    let many = ap most_young of.slots in
+    let Rests = RestsWith mid (IsOn settings now.store) in
+    record {
+      held = now.store.exchanges;
+      store = subst (λ (m : ℕ). IsStore m now.store.exchanges) many is_in.joined.order;
+      was_held = λ seen sees. (opened_it seen sees).0;
+      came = λ follows.
+          let came = comes start is_in (followed_since ((seen : ℕ → ℕ) × Sees first seen) Rests xs ys zs keeps adds (λ told. (opened_it told.0 told.1).1) follows) in (
+            came.0,
+            came_since settings most start how first mid end Rests xs ys zs came.0 keeps
+                (λ rest. (opened_it rest.0 (sees_at_rest first rest.0 rest.1)).1)
+                (λ rest. leaves_as first mid (λ image. Holds settings image (entries_of now.store.exchanges)) (HoldsAlike settings most (time_in start) start.kept)
+                (λ image held. the_holds settings most now start (time_in start) image is_in many (own_time settings most now start is_in) held)
+                (moments rest.0 (entries_of now.store.exchanges) rest.1 (opened_it rest.0 (sees_at_rest first rest.0 rest.1)).0))
+                came.1,
+          );
+    }
 
 -- what is found again completes
 pub completes_by : (how : GatewayHalt) → IsFound (Err how) → Completes (ending.Halted how)

@@ -3,7 +3,7 @@ use Rattle.std.specs.Prelude.{Ok, Err}
 use Rattle.dots_disk.specs.Becoming.{Leaves, RestsWith}
 use Rattle.slot_store.proofs.Steps.{begins}
 use Rattle.dots_host.specs.declared.event.Event.TheVariants as event
-use Rattle.dots_host.specs.Acts.{took, event_of}
+use Rattle.dots_host.specs.Acts.{IsWithin, took, event_of}
 use Rattle.dots_host.specs.Causes.{Rose}
 use Rattle.dots_host.specs.Runs.{resting, each_telling}
 use Rattle.dots_host.proofs.RunLemmas.{added_none, added_by}
@@ -13,7 +13,7 @@ use Rattle.gateway_store.specs.Exchanges.{most_young}
 use Rattle.gateway_store.specs.Stores.{IsOn, StoreValue}
 use Rattle.dots_gateway.specs.Gateway.{GatewayValue}
 use Rattle.gateway_agent.specs.declared.stopping.GatewayHalt.TheVariants as halt
-use Rattle.gateway_agent.specs.Passing.{restarted}
+use Rattle.gateway_agent.specs.Passing.{GatewayState, restarted}
 use Rattle.gateway_agent.specs.Keeping.{IsIn, agent}
 use Rattle.gateway_agent.specs.Turning.{HoldsTurn}
 use Rattle.gateway_agent.proofs.Following.{added_any, restarted_on, restarted_now, taken_on, added_on, either_on, followed}
@@ -24,8 +24,6 @@ use Rattle.gateway_agent.proofs.Turning.{keeps_same, none_added}
 use Rattle.gateway_agent.proofs.running.take_events.Goals.{in-Restart+in-Ok, in_default+in-Ok-take}
 use Rattle.gateway_agent.proofs.running.take_events.Goals as goal
 
--- A draft: the names of the goals and of what they have are those of a loop of this shape, and weren't checked.
-
 -- ---- before the first event
 
 pub loop-turn-init : goal.loop-turn-init
@@ -34,7 +32,7 @@ loop-turn-init g c =
     let settings = c.args.settings.now in
     let now = agent c.args.core c.args.store in
     let many = ap most_young c.requires.of.slots in
-    let first = λ start is. lives_first settings (most_young (slots_of settings)) start now (g.H.Wire.moment host) (g.H.Disk.media host) (g.H.Wire.acts host) is many in
+    let first = λ (start : GatewayState) (is : IsIn now start). lives_first settings (most_young (slots_of settings)) start now (g.H.Wire.moment host) (g.H.Disk.media host) (g.H.Wire.acts host) is many in
     record {
       leads = g.met.H.Wire.leads_same host;
       later = omega arith;
@@ -45,6 +43,22 @@ loop-turn-init g c =
       adds = added_none (g.H.Wire.acts host) (λ _. Unit {0}) tt;
       rested = λ start is rests. first start is;
       lives = λ start is. inr (first start is);
+    }
+
+-- what a turn asks
+pub take-requires : goal.take-requires
+take-requires g c =
+    let inv = c.loop-turn.invariant in
+    let came = c.next-got.new.self in
+    let keeps = g.met.H.Host.wire_keeps c.loop-turn.host came c.next-got.ensures.beside in
+    record {
+      within = subst (λ (n : ℕ). IsWithin c.next-got.result.what n) (sym (c.next-got.auto.into ∙ c.loop-turn.auto.room ∙ c.requires.room)) c.next-got.ensures.within;
+      early = c.next-got.ensures.at;
+      taken = taken_of c.next-got.result.what c.in_default.not-End c.in_default.not-Failed c.in_default.not-Restart;
+      upstream = sym inv.of.upstream_is;
+      joined = inv.joined;
+      size = subst (λ (extent : ℕ). needed_of c.loop-turn.store.journal.slots ≤ extent) (sym keeps.1)
+          (subst (λ (slots : ℕ). needed_of slots ≤ g.H.Disk.extent c.loop-turn.host) (sym inv.of.slots) inv.size);
     }
 
 -- ---- one more
@@ -105,7 +119,7 @@ loop-turn-preserved g c =
           let goes = no_end c.next-got.result.what c.next-got.new.into at w.in_default.not-End w.in_default.not-Failed in
           let took_it = c.next-got.ensures.acts in
           let many = ap most_young (w.take.ensures.same.slots ∙ inv.of.slots) in
-          let on = λ start lives.
+          let on = λ (start : GatewayState) (lives : LivesOn settings most start (agent core store) c.loop-turn._turn Rests first a xs ys).
           lives_then settings most start (agent core store) c.loop-turn._turn moment at what Rests first a b xs ys zs now here keeps.0 took_it lives next (g.H.Disk.media left) (g.H.Wire.acts left) many goes
           (w.in-Ok-take.ensures.done settings lives.state lives.is_in) in
           rw (w.host-is, w.core-is, w.store-is) (record {
