@@ -35,19 +35,6 @@ use Rattle.gateway_agent.proofs.Restarting.{begun_alike}
 use Rattle.gateway_agent.specs.Turning.{HoldsTurn, most_of, time_in}
 use Rattle.gateway_agent.proofs.Runs.{represents_holds, the_holds}
 
--- ---- a record has a time below 2^48
-
-first_of : (a b c d : Bool) → IsTrue (a && b && c && d) → a ≡ true
-first_of true b c d is = refl
-first_of false b c d is = is
-
-each_time : (t : ℕ) (xs : List Exchange) → t < 2 ^ 48 → AllByRecursion HasRecord (entries_of xs) → time_of t xs < 2 ^ 48
-each_time t [] early all = early
-each_time t (x ∷ xs) early all = each_time x.time xs (ltb-true x.time (2 ^ 48) (first_of _ _ _ _ all.0.within)) all.1
-
-pub held_time : (settings : SettingsValue) (xs : List Exchange) (image : ℕ → ℕ) → HoldsThe settings xs image → last_time xs < 2 ^ 48
-held_time settings xs image held = each_time 0 xs (omega arith) held.each
-
 -- ---- the time
 
 time_none : (xs : List Exchange) → length xs ≡ 0 → time_of 0 xs ≡ 0

@@ -14,67 +14,18 @@ ghost use Rattle.slot_journal.specs.Sizes.{slots_of};
 ghost use Rattle.slot_journal.specs.Untaken.{IsFailure};
 ghost use Rattle.slot_journal.specs.declared.fault.JournalFault.{JournalFault};
 ghost use Rattle.gateway_store.specs.Crashes.{HoldsThe};
-ghost use Rattle.gateway_store.specs.Exchanges.{IsStore, last_time, most_young, next_number};
+ghost use Rattle.gateway_store.specs.Exchanges.{IsStore, most_young, next_number};
 ghost use Rattle.gateway_store.specs.Refusing.{RefusesStore};
 ghost use Rattle.gateway_store.specs.Stores.{IsOn};
 ghost use Rattle.gateway_agent.specs.Passing.{GatewayState, begun, opened, restarted};
 ghost use Rattle.gateway_agent.specs.Keeping.{AreJoined, IsFor, IsIn, agent};
 
 use dots_disk::Disk;
-use dots_gateway::{Exchange, GatewayCore};
+use dots_gateway::GatewayCore;
 use dots_lists::NoMemory;
 use dots_settings::Settings;
 use gateway_store::{JournalFault, Store};
 use std::alloc::Global;
-
-/// Times are below this many seconds.
-const TIME_END: u64 = 0x1_0000_0000_0000;
-
-/// The time of the last exchange, in seconds, and 0 where there is none.
-fn last_time(exchanges: &[Exchange]) -> u64
-    ensures { result ≡ last_time exchanges.now }
-{
-    if exchanges.is_empty() {
-        return 0;
-    }
-    exchanges[exchanges.len() - 1].time
-}
-
-/// Opens the store, and answers the number of the next exchange. No time in it is 2^48 or later: a disk has no record of such an entry, so
-/// none is refused for that.
-///
-/// # Errors
-///
-/// Those of [`Store::open`].
-pub fn open_store<D: Disk>(
-    alloc: Global,
-    disk: &mut D,
-    settings: &Settings,
-) -> Result<(Store, u64), JournalFault>
-    ensures moments { (seen : ℕ → ℕ) (entries : List Entry) → RestsWith (D.media disk.old) (Is seen) → Holds settings.now seen entries
-        → Leaves (D.media disk.old) (D.media disk.new) (λ image. Holds settings.now image entries) }
-    ensures opened { IfOk result (λ found. (seen : ℕ → ℕ) → Sees (D.media disk.old) seen
-        → HoldsThe settings.now found.0.exchanges seen × RestsWith (D.media disk.new) (IsOn settings.now found.0)) }
-    ensures store { IfOk result (λ found. IsStore (most_young found.0.journal.slots) found.0.exchanges) }
-    ensures early { IfOk result (λ found. last_time found.0.exchanges < 2 ^ 48) }
-    ensures next { IfOk result (λ found. found.1 ≡ next_number found.0.exchanges) }
-    ensures size { IfOk result (λ found. (found.0.journal.slots ≡ slots_of settings.now) × (needed_of (slots_of settings.now) ≤ D.extent disk.new)) }
-    ensures refused { IfErr result (λ fault. (seen : ℕ → ℕ) → Sees (D.media disk.old) seen
-        → RefusesStore settings.now (D.extent disk.old) seen (D.media disk.new) fault) }
-    ensures complete { IfErr result (λ fault. (seen : ℕ → ℕ) (exchanges : List Exchange) → Sees (D.media disk.old) seen → HoldsThe settings.now exchanges seen
-        → IsStore (most_young (slots_of settings.now)) exchanges → needed_of (slots_of settings.now) ≤ D.extent disk.old → IsFailure fault) }
-    ensures unwritten { IfErr result (λ fault. (seen : ℕ → ℕ) → fault ≢ JournalFault.DiskFault → RestsWith (D.media disk.old) (Is seen)
-        → RestsWith (D.media disk.new) (Is seen) ⊎ ((entries : List Entry) × Holds settings.now seen entries)) }
-    ensures extent { D.extent disk.new ≡ D.extent disk.old }
-    ensures cause { Caused (D.faults disk.old) (D.faults disk.new) result }
-    ensures beside { D.beside disk.old disk.new }
-{
-    let (store, found, next) = Store::open(alloc, disk, settings)?;
-    if last_time(found.items()) >= TIME_END {
-        return Err(JournalFault::NotOurs { at: 0 });
-    }
-    Ok((store, next))
-}
 
 /// The gateway that begins with a store at the time `at`, in seconds. Its young exchanges wait again.
 pub fn core_with(
@@ -130,7 +81,7 @@ pub fn begin<D: Disk>(
     ensures cause { Caused (D.faults disk.old) (D.faults disk.new) result }
     ensures beside { D.beside disk.old disk.new }
 {
-    let (store, next) = open_store(alloc, disk, settings)?;
+    let (store, _, next) = Store::open(alloc, disk, settings)?;
     let core = core_with(alloc, settings, upstream, &store, next, at)?;
     Ok((core, store))
 }

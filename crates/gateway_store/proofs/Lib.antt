@@ -6,6 +6,7 @@ pub mod Foreign
 pub mod Slots
 pub mod Keeping
 pub mod Strays
+pub mod Early
 pub mod Waiting
 pub mod Sizes
 pub mod Writing

@@ -1,6 +1,6 @@
 //! How a store opens.
 
-ghost use Rattle.std.specs.Prelude.{◌≡◌, ◌≢◌, ℕ, ◌≤◌, ◌⊎◌, ◌++◌, List, [], length, vec_capacity, IfOk, IfErr, OnOk};
+ghost use Rattle.std.specs.Prelude.{◌≡◌, ◌≢◌, ℕ, ◌^◌, ◌<◌, ◌≤◌, ◌⊎◌, ◌++◌, List, [], length, vec_capacity, IfOk, IfErr, OnOk};
 ghost use Rattle.std.specs.List.{range_with_len};
 ghost use Rattle.dots_disk.specs.Becoming.{Leaves, RestsWith};
 ghost use Rattle.dots_gateway.specs.declared.exchange.Exchange.{Exchange};
@@ -15,7 +15,7 @@ ghost use Rattle.slot_journal.specs.Sizes.{slots_of};
 ghost use Rattle.slot_journal.specs.Untaken.{IsFailure};
 ghost use Rattle.slot_journal.specs.declared.fault.JournalFault.{JournalFault};
 ghost use Rattle.gateway_store.specs.Crashes.{HoldsThe};
-ghost use Rattle.gateway_store.specs.Exchanges.{IsStore, most_young, next_number};
+ghost use Rattle.gateway_store.specs.Exchanges.{IsStore, last_time, most_young, next_number};
 ghost use Rattle.gateway_store.specs.Forms.{entries_of};
 ghost use Rattle.gateway_store.specs.Refusing.{RefusesStore};
 ghost use Rattle.gateway_store.specs.Stores.{AreReplies, IsOn};
@@ -58,6 +58,7 @@ impl Store {
         ensures opened { IfOk result (λ found. (seen : ℕ → ℕ) → Sees (D.media disk.old) seen
             → HoldsThe settings.now found.0.exchanges seen × RestsWith (D.media disk.new) (IsOn settings.now found.0)) }
         ensures store { IfOk result (λ found. IsStore (most_young found.0.journal.slots) found.0.exchanges) }
+        ensures early { IfOk result (λ found. last_time found.0.exchanges < 2 ^ 48) }
         ensures exchanges { IfOk result (λ found. (found.1 ≡ found.0.exchanges) × (found.2 ≡ next_number found.0.exchanges)) }
         ensures restorable { IfOk result (λ found. (gone left : List Exchange) → found.1 ≡ gone ++ left → AreRestorable left found.2) }
         ensures size { IfOk result (λ found. (found.0.journal.slots ≡ slots_of settings.now) × (needed_of (slots_of settings.now) ≤ D.extent disk.new)) }
@@ -130,6 +131,7 @@ fn fill<D: Disk>(
         → HoldsThe settings.now exchanges.new.items seen
         × RestsWith (D.media disk.new) (Represents journal settings.now (entries_of exchanges.new.items))) }
     ensures store { OnOk result (IsStore (most_young (slots_of settings.now)) exchanges.new.items) }
+    ensures early { OnOk result (last_time exchanges.new.items < 2 ^ 48) }
     ensures used { IfOk result (λ journal. (journal.used ≡ length exchanges.new.items) × (journal.used ≤ journal.slots)) }
     ensures size { IfOk result (λ journal. (journal.slots ≡ slots_of settings.now) × (needed_of (slots_of settings.now) ≤ D.extent disk.new)) }
     ensures capacity { vec_capacity exchanges.new ≡ vec_capacity exchanges.old }

@@ -1,9 +1,9 @@
 //! How the exchanges of a journal's entries are taken.
 
-ghost use Rattle.std.specs.Prelude.{◌≡◌, ◌≤◌, ◌<◌, [], length, vec_capacity, OnOk, IfErr};
+ghost use Rattle.std.specs.Prelude.{◌≡◌, ◌≤◌, ◌<◌, ◌^◌, [], length, vec_capacity, OnOk, IfErr};
 ghost use Rattle.std.specs.List.{AllByRecursion};
 ghost use Rattle.slot_journal.specs.DiskEntries.{HasRecord};
-ghost use Rattle.gateway_store.specs.Exchanges.{IsStore, most_young};
+ghost use Rattle.gateway_store.specs.Exchanges.{IsStore, last_time, most_young};
 ghost use Rattle.gateway_store.specs.Forms.{entries_of};
 ghost use Rattle.gateway_store.specs.Refusing.{Joining, RefusesEntries};
 
@@ -43,6 +43,7 @@ pub fn take_all(
     requires slots { 8 < journal.now.slots }
     ensures store { OnOk result (IsStore (most_young journal.now.slots) exchanges.new.items) }
     ensures taken { OnOk result (entries.now ≡ entries_of exchanges.new.items) }
+    ensures early { OnOk result (last_time exchanges.new.items < 2 ^ 48) }
     ensures refused { IfErr result (RefusesEntries journal.now entries.now) }
     ensures capacity { vec_capacity exchanges.new ≡ vec_capacity exchanges.old }
 {

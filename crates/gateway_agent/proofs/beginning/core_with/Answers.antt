@@ -1,4 +1,4 @@
-use Rattle.std.proofs.Common.{◌≡◌, ◌≤◌, ℕ, length, sym, ap, subst, ◌∙◌, arith}
+use Rattle.std.proofs.Common.{ℕ, sym, ap, subst, ◌∙◌, arith}
 use Rattle.dots_gateway.specs.Exchanges.{AreRestorable, restored}
 use Rattle.dots_gateway.specs.Gateway.{GatewayValue, gateway_at}
 use Rattle.dots_gateway.specs.Routes.{routes_of}

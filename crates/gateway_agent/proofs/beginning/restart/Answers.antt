@@ -1,4 +1,4 @@
-use Rattle.std.proofs.Common.{◌≡◌, ◌≤◌, ℕ, List, refl, sym, ap, subst, ◌∙◌}
+use Rattle.std.proofs.Common.{ℕ, sym, subst, ◌∙◌}
 use Rattle.slot_store.proofs.DiskReading.{sees_at_rest}
 use Rattle.slot_store.proofs.OpenLemmas.{if_ok_as, if_err_as}
 use Rattle.slot_store.proofs.Steps.{seen_at_rest}

@@ -1,4 +1,4 @@
-use Rattle.std.proofs.Common.{◌≡◌, List, refl, sym, subst, arith}
+use Rattle.std.proofs.Common.{List, refl, sym, subst, arith}
 use Rattle.dots_disk.specs.Becoming.{Leaves}
 use Rattle.slot_store.proofs.Steps.{begins}
 use Rattle.dots_gateway.specs.declared.exchange.Exchange.{Exchange}

@@ -1,4 +1,4 @@
-use Rattle.std.proofs.Common.{ap, inl}
+use Rattle.std.proofs.Common.{inl}
 use Rattle.std.specs.Prelude.{Ok, Err}
 use Rattle.dots_gateway.specs.Gateway.{GatewayValue}
 use Rattle.gateway_store.specs.Stores.{StoreValue}

@@ -5,7 +5,7 @@ use Rattle.slot_store.proofs.Steps.{begins}
 use Rattle.dots_host.specs.declared.event.Event.TheVariants as event
 use Rattle.dots_host.specs.Acts.{IsWithin, took, event_of}
 use Rattle.dots_host.specs.Causes.{Rose}
-use Rattle.dots_host.specs.Runs.{resting, each_telling}
+use Rattle.dots_host.specs.Runs.{resting}
 use Rattle.dots_host.proofs.RunLemmas.{added_none, added_by}
 use Rattle.slot_store.specs.Layout.{needed_of}
 use Rattle.slot_journal.specs.Sizes.{slots_of}

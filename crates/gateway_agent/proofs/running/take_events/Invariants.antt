@@ -1,4 +1,4 @@
-use Rattle.std.proofs.Common.{◌≡◌, ◌≤◌, ◌⊎◌, List}
+use Rattle.std.proofs.Common.{◌≡◌, ◌≤◌, ◌⊎◌}
 use Rattle.dots_disk.specs.Becoming.{RestsWith}
 use Rattle.dots_host.specs.Runs.{Added}
 use Rattle.slot_store.specs.Layout.{needed_of}

@@ -1,4 +1,4 @@
-use Rattle.std.proofs.Common.{◌≡◌, take, refl, sym, ap, subst, ◌∙◌, arith}
+use Rattle.std.proofs.Common.{refl, sym, ap, subst, arith}
 use Rattle.dots_host.specs.declared.event.What.{What}
 use Rattle.dots_host.specs.Acts.{event_of}
 use Rattle.dots_gateway.specs.Gateway.{GatewayValue}

@@ -1,4 +1,4 @@
-use Rattle.std.proofs.Common.{◌≡◌, refl, sym, ap, ◌∙◌, arith}
+use Rattle.std.proofs.Common.{sym, ap, ◌∙◌, arith}
 use Rattle.dots_gateway.specs.Gateway.{GatewayValue}
 use Rattle.slot_journal.proofs.Crashing.{on_ok_as}
 use Rattle.gateway_store.proofs.Keeping.{on_err_as}

@@ -1,7 +1,7 @@
-use Rattle.std.proofs.Common.{◌≡◌, ℕ, List, refl, sym, ap, subst, ◌∙◌}
+use Rattle.std.proofs.Common.{ℕ, refl, sym, ap, subst}
 use Rattle.dots_host.specs.Runs.{Added, Gives}
 use Rattle.dots_gateway.specs.Gateway.{GatewayValue}
-use Rattle.gateway_agent.specs.Passing.{GatewayState, GoesDown, sends_of, state_at}
+use Rattle.gateway_agent.specs.Passing.{GoesDown, sends_of, state_at}
 use Rattle.gateway_agent.specs.Keeping.{AreJoined, agent}
 use Rattle.gateway_agent.specs.Turning.{TookBy}
 use Rattle.gateway_agent.proofs.Joining.{joined_at}

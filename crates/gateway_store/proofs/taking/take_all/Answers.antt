@@ -1,5 +1,8 @@
-use Rattle.std.proofs.Common.{◌≡◌, ℕ, List, true, false, Some, length, sym, ap, subst, ◌∙◌, arith}
-use Rattle.std.proofs.lemmas.List.{length-append}
+use Rattle.std.proofs.Common.{◌≡◌, ◌≤◌, ℕ, List, true, false, Some, length, sym, ap, subst, ◌∙◌, arith}
+use Rattle.std.proofs.lemmas.List.{length-append, take_all}
+use Rattle.std.specs.List.{AllByRecursion}
+use Rattle.slot_journal.specs.DiskEntries.{HasRecord}
+use Rattle.gateway_store.proofs.Early.{all_early}
 use Rattle.dots_gateway.specs.declared.exchange.Exchange.{Exchange}
 use Rattle.gateway_store.specs.Exchanges.{IsStore, joins, most_young}
 use Rattle.gateway_store.specs.Forms.{entries_of, exchange_in}
@@ -70,3 +73,13 @@ loop-slot-preserved c =
       place = omega (arith, long, place);
       capacity = c.push_reserved.ensures.capacity ∙ inv.capacity;
     }
+
+pub returns-clause-early : goal.returns-clause-early
+returns-clause-early c =
+    let inv = c.loop-slot.invariant in
+    let used = c.used-slot-end.ensures.used in
+    let many = c.requires.used in
+    let over = c.loop-slot-test.false in
+    let long : length c.args.entries.now ≤ c.loop-slot.slot = omega (arith, used, many, over) in
+    let whole : c.args.entries.now ≡ entries_of c.loop-slot.exchanges.items = sym (inv.taken ∙ take_all c.loop-slot.slot c.args.entries.now long) in
+    all_early c.loop-slot.exchanges.items (subst (AllByRecursion HasRecord) whole c.requires.each)
