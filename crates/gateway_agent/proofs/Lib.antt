@@ -3,8 +3,12 @@ pub mod Following
 pub mod Fresh
 pub mod Joining
 pub mod Opening
+pub mod Packets
 pub mod Restarting
+pub mod Rising
 pub mod Runs
+pub mod Sending
+pub mod Sent
 pub mod Storing
 pub mod Surviving
 pub mod Turning

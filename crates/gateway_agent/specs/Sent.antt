@@ -1,5 +1,5 @@
 -- What the packets that were sent to the upstream are of, in the words of a run.
-use Rattle.std.specs.Prelude.{◌≡◌, ◌⊎◌, ℕ, ◌<◌, ◌≤◌, true, List, [], ◌∷◌, Contains}
+use Rattle.std.specs.Prelude.{◌≡◌, ◌⊎◌, ℕ, ◌^◌, ◌<◌, ◌≤◌, true, List, [], ◌∷◌, Contains}
 use Rattle.std.specs.Int.{w64, to_be_bytes}
 use Rattle.coap_message.specs.Message.{CoapMessage, IsMessage, spelling}
 use Rattle.dots_host.specs.declared.out.OwnedOut.TheVariants as owned
@@ -10,9 +10,10 @@ use Rattle.dots_gateway.specs.Wanted.{is_request}
 use Rattle.gateway_store.specs.Crashes.{HoldsThe}
 use Rattle.gateway_store.specs.Exchanges.{IsStore, is_young, last_number}
 
--- a request that was passed on under the number
+-- a request that was passed on under the number, which is one of 8 bytes: these are its token
 abbrev pub IsPacket : ℕ → List ℕ → Type 0
-IsPacket number bytes = (m : CoapMessage) × IsMessage m × (bytes ≡ spelling m) × (is_request m ≡ true) × (m.token ≡ to_be_bytes w64 number)
+IsPacket number bytes =
+    (m : CoapMessage) × IsMessage m × (bytes ≡ spelling m) × (is_request m ≡ true) × (number < 2 ^ 64) × (m.token ≡ to_be_bytes w64 number)
 
 -- it was handed to the wire for the upstream
 abbrev pub IsHanded : ℕ → ℕ → WireAct → Type 0
