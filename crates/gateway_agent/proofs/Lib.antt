@@ -9,6 +9,7 @@ pub mod Rising
 pub mod Runs
 pub mod Sending
 pub mod Sent
+pub mod Sound
 pub mod Storing
 pub mod Surviving
 pub mod Turning
