@@ -1,13 +1,10 @@
 -- Which datagrams are requests, and under which number.
-use Rattle.std.proofs.Common.{◌≡◌, ℕ, ◌/◌, ◌<◌, Bool, true, false, cond, List, [], ◌∷◌, ◌++◌, take, drop, get_or, Contains, refl, sym, ap, subst, ◌∙◌, inl, inr}
-use Rattle.std.specs.Prelude.{◌^◌, ◌⊎◌, ◌==◌, ◌&&◌, ◌||◌, not, ⊤, Option, Some, None, Result, Ok, Err}
+use Rattle.std.proofs.Common.{◌≡◌, ℕ, ◌/◌, ◌<◌, Bool, true, false, List, ◌++◌, take, drop, get_or, refl, sym, ap, ◌∙◌}
+use Rattle.std.specs.Prelude.{◌^◌, ◌==◌, ◌&&◌, not}
 use Rattle.std.specs.Int.{w64, to_be_bytes, from_be_bytes}
-use Rattle.std.specs.List.{find}
 use Rattle.std.proofs.lemmas.Bool.{and_parts, and_from}
 use Rattle.std.proofs.lemmas.Nat.{from_be_bytes-to_be_bytes_8}
-use Rattle.coap_message.specs.declared.kind.Kind.{Kind}
-use Rattle.coap_message.specs.declared.kind.Kind.TheVariants.{Con, Non, Ack, Rst}
-use Rattle.coap_message.specs.Message.{CoapMessage, IsMessage, header, options_bytes, payload_bytes, spelling}
+use Rattle.coap_message.specs.Message.{CoapMessage, header, options_bytes, payload_bytes, spelling}
 use Rattle.dots_gateway.specs.Wanted.{is_request, may_ask}
 use Rattle.gateway_agent.specs.Sent.{IsPacket}
 
@@ -21,9 +18,6 @@ pub record IsNumbered (number : ℕ) (bytes : List ℕ) : Type 0 where
 
 token_of : (m : CoapMessage) (number : ℕ) → m.token ≡ to_be_bytes w64 number → take 8 (drop 4 (spelling m)) ≡ to_be_bytes w64 number
 token_of m number is = ap (λ (token : List ℕ). take 8 (drop 4 (header m.kind m.code m.identifier token ++ options_bytes 0 m.options ++ payload_bytes m.payload))) is
-
-code_of : (m : CoapMessage) → get_or (spelling m) 1 0 ≡ m.code
-code_of m = refl
 
 one_token : (a b : ℕ) → a < 2 ^ 64 → b < 2 ^ 64 → to_be_bytes w64 a ≡ to_be_bytes w64 b → a ≡ b
 one_token a b small fits same = sym (from_be_bytes-to_be_bytes_8 a small) ∙ ap (from_be_bytes w64) same ∙ from_be_bytes-to_be_bytes_8 b fits

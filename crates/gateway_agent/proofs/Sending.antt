@@ -1,17 +1,15 @@
 -- What is sent for an event: each request under a number is of an exchange that is kept.
-use Rattle.std.proofs.Common.{◌≡◌, ℕ, zero, ◌<◌, ◌/◌, Bool, true, false, cond, List, [], ◌∷◌, ◌++◌, map, Contains, refl, sym, ap, subst, ◌∙◌, arith, append-nil}
-use Rattle.std.specs.Prelude.{◌^◌, ◌-◌, ◌==◌, ◌&&◌, ◌||◌, All, max, not, nat_le, length, ⊤, Option, Some, None, Result, Ok, Err}
+use Rattle.std.proofs.Common.{◌≡◌, ℕ, ◌/◌, Bool, true, false, cond, List, [], Contains, refl, sym, subst}
+use Rattle.std.specs.Prelude.{◌==◌, ◌||◌, not, ⊤, Option, Some, None, Result, Ok, Err}
 use Rattle.std.specs.List.{find}
-use Rattle.std.proofs.lemmas.Bool.{and_parts, and_right, or_parts, eqb-false, eqb-true, ne_eqb}
-use Rattle.std.proofs.lemmas.List.Elements.{All-contains, All-contains_itself, All-filter, All-map, All-nil, All-push, All-weaker, Contains-append_left, Contains-push}
+use Rattle.std.proofs.lemmas.Bool.{and_parts, and_right, ne_eqb}
 use Rattle.coap_message.specs.declared.kind.Kind.{Kind}
 use Rattle.coap_message.specs.declared.kind.Kind.TheVariants.{Con, Non, Ack, Rst}
-use Rattle.coap_message.specs.Message.{CoapMessage, IsMessage, spelling}
+use Rattle.coap_message.specs.Message.{CoapMessage, spelling}
 use Rattle.coap_message.specs.Salvage.{salvaged}
 use Rattle.dots_heads.specs.RejectText.{reject_code, reject_text}
 use Rattle.dots_heads.specs.declared.reject.Reject.{Reject}
 use Rattle.dots_heads.specs.declared.reject.Reject.TheVariants as reject
-use Rattle.dots_gateway.specs.declared.exchange.Exchange.{Exchange}
 use Rattle.dots_gateway.specs.declared.exchange.Waiting.{Waiting}
 use Rattle.dots_gateway.specs.declared.passed.Passed.{Passed}
 use Rattle.dots_gateway.specs.declared.passed.Passed.TheVariants as passed

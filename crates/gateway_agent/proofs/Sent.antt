@@ -10,7 +10,7 @@ use Rattle.dots_settings.specs.Settings.{SettingsValue}
 use Rattle.dots_gateway.specs.declared.exchange.Exchange.{Exchange}
 use Rattle.dots_gateway.specs.Routes.{routes_of}
 use Rattle.slot_journal.specs.Sizes.{slots_of}
-use Rattle.gateway_store.specs.Exchanges.{IsStore, is_young, young_at, last_number, most_young}
+use Rattle.gateway_store.specs.Exchanges.{IsStore, is_young, last_number, most_young}
 use Rattle.gateway_store.proofs.Orders.{ordered}
 use Rattle.gateway_store.proofs.Young.{number_small}
 use Rattle.gateway_agent.specs.Passing.{GatewayState, opened, step}

@@ -1,6 +1,6 @@
 -- What holds of a gateway along a run: the numbers of what it kept rise, and each request that it sends is of one of these.
-use Rattle.std.proofs.Common.{◌≡◌, ℕ, ◌+◌, ◌<◌, ◌≤◌, Bool, true, false, List, [], ◌∷◌, ◌++◌, map, max, Contains, refl, sym, ap, subst, ◌∙◌, append-nil, arith}
-use Rattle.std.specs.Prelude.{◌^◌, ◌-◌, ◌==◌, ◌||◌, All, length, nat_le, not, ⊤, Option, Some, None, Result, Ok, Err}
+use Rattle.std.proofs.Common.{◌≡◌, ℕ, ◌+◌, ◌<◌, Bool, true, false, List, [], ◌∷◌, ◌++◌, max, Contains, refl, sym, ap, subst, ◌∙◌, append-nil, arith}
+use Rattle.std.specs.Prelude.{◌^◌, ◌-◌, ◌==◌, All, length, nat_le, not, ⊤, Some, None, Ok, Err}
 use Rattle.std.specs.Bool.{MatchBool}
 use Rattle.std.proofs.lemmas.Bool.{eqb-false, or_parts}
 use Rattle.std.proofs.lemmas.List.Elements.{All-contains_itself, All-filter, All-map, All-push, All-weaker, All-contains, Contains-append_left, Contains-push}
@@ -16,7 +16,7 @@ use Rattle.dots_gateway.specs.declared.passed.GatewayFault.TheVariants as fault
 use Rattle.dots_gateway.specs.declared.routes.Route.{Route}
 use Rattle.dots_gateway.specs.Exchanges.{ExchangesValue, is_full, is_over, waiting_again, with_one}
 use Rattle.dots_gateway.specs.Gateway.{GatewayValue, Said, gateway_at, UpOrLacks, DownOrLacks}
-use Rattle.gateway_store.specs.Exchanges.{is_young, young_at, last_number, next_number}
+use Rattle.gateway_store.specs.Exchanges.{is_young, young_at, next_number}
 use Rattle.gateway_store.proofs.Orders.{number_more}
 use Rattle.gateway_agent.specs.Passing.{GatewayState, begun, restarted, time_from, state_at, sends_of, fresh_in, Refuses, answered, silent, full_text, UpSends, GoesUp, GoesDown, Passes}
 use Rattle.gateway_agent.specs.Sent.{IsPacket}
@@ -136,7 +136,7 @@ module _ (old new : GatewayState) (peer : ℕ) (datagram : List ℕ) (outs : Lis
       let fresh = fresh_of old.core peer datagram bytes x ups.0 in
       let number = fresh_number old.core.exchanges peer x fresh in
       let sound = subst (λ (core : GatewayValue). IsSound core new.kept) (sym ups.1)
-          (subst (IsSound (record old.core { exchanges = with_one x datagram old.core.exchanges })) (sym kept) (more_sound old.core old.kept x datagram is number fresh.free)) in
+      (subst (IsSound (record old.core { exchanges = with_one x datagram old.core.exchanges })) (sym kept) (more_sound old.core old.kept x datagram is number fresh.free)) in
       let has = subst (λ (xs : List Exchange). Contains xs x) (sym kept) (Contains-push old.kept x) in
       let numbered = subst (λ (n : ℕ). IsNumbered n bytes) (sym number) (up_of_one old.core peer datagram (Ok (passed.Forward bytes (Some x))) ups.0) in
       record {
@@ -166,7 +166,7 @@ module _ (old new : GatewayState) (peer : ℕ) (datagram : List ℕ) (outs : Lis
   up_leads (Ok passed.Nothing) ups sends kept = record { sound = still ups.1 kept; are_of = subst (AreOf new.kept) (sym sends) tt; more = []; grows = kept }
   up_leads (Ok passed.NoMemory) ups sends kept = record { sound = still ups.1 kept; are_of = subst (AreOf new.kept) (sym sends) tt; more = []; grows = kept }
 
--- ---- a datagram of the upstream, and any other event
+  -- ---- a datagram of the upstream, and any other event
 
   same_leads : new ≡ old → AreOf new.kept outs → Leads old.kept outs new
   same_leads same are_of = record {
