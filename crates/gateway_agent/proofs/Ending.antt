@@ -1,5 +1,5 @@
 -- A run behind the opening of its store.
-use Rattle.std.proofs.Common.{◌≡◌, ℕ, ◌≤◌, ◌⊎◌, inl, inr, List, [], ◌∷◌, ◌++◌, Option, Some, None, refl, sym, ap, ◌∙◌, subst, arith}
+use Rattle.std.proofs.Common.{ℕ, inl, inr, List, ◌++◌, Option, Some, None, sym, ap, ◌∙◌, subst}
 use Rattle.dots_host.specs.Acts.{Timed}
 use Rattle.dots_host.specs.Runs.{Owing, Added}
 use Rattle.dots_host.proofs.RunLemmas.{added_weaker}
@@ -14,6 +14,7 @@ use Rattle.slot_journal.specs.DiskEntries.{Holds}
 use Rattle.slot_journal.specs.Sizes.{slots_of}
 use Rattle.dots_settings.specs.Settings.{SettingsValue}
 use Rattle.dots_history.specs.declared.entry.Entry.{Entry}
+use Rattle.dots_gateway.specs.declared.exchange.Exchange.{Exchange}
 use Rattle.gateway_store.specs.Crashes.{HoldsThe}
 use Rattle.gateway_store.specs.Exchanges.{IsStore, most_young}
 use Rattle.gateway_store.specs.Forms.{entries_of}
@@ -26,9 +27,12 @@ use Rattle.gateway_agent.specs.Passing.{GatewayState, opened}
 use Rattle.gateway_agent.specs.Keeping.{AgentValue, IsFor, IsIn}
 use Rattle.gateway_agent.specs.Turning.{HoldsAlike, time_in}
 use Rattle.gateway_agent.specs.Surviving.{past_of}
-use Rattle.gateway_agent.specs.Running.{Answer, Came, Completes, HasCome, HasRun, IsAtRest, IsFollowed, IsFound, NeverRestarts}
+use Rattle.gateway_agent.specs.Running.{Answer, Came, Completes, HasCome, HasRun, SurvivesSent, IsAtRest, IsFollowed, IsFound, NeverRestarts}
 use Rattle.gateway_agent.proofs.Runs.{own_time, the_holds}
-use Rattle.gateway_agent.proofs.Surviving.{leaves_past, none_earlier, survives_opening}
+use Rattle.gateway_agent.specs.Sent.{HoldsSent}
+use Rattle.gateway_agent.specs.Surviving.{MeansAt, time_at}
+use Rattle.gateway_agent.proofs.Sent.{holds_sent, opened_sound}
+use Rattle.gateway_agent.proofs.Surviving.{leaves_at_so, leaves_past, none_earlier, survives_opening}
 use Rattle.gateway_agent.proofs.Turning.{added_behind}
 
 -- no restart came since the opening either
@@ -68,6 +72,19 @@ came_since settings most start how first mid now Rests xs ys zs end keeps goes l
       )));
 }
 
+-- what survives has all that was sent
+sent_too : (settings : SettingsValue) (upstream : ℕ) (how : Answer) (held : List Exchange) (first now : Option Media) (xs zs : Option (List Timed)) (end : Owing GatewayState) → IsStore (most_young (slots_of settings)) held
+    → (came : Came settings (most_young (slots_of settings)) (opened settings upstream held 0) how first now (IsAtRest first) xs zs end)
+    → Added xs zs (λ more. IsAtRest first → SurvivesSent settings (most_young (slots_of settings)) (opened settings upstream held 0) first now more came.trace end.last.kept)
+sent_too settings upstream how held first now xs zs end store came =
+    let most = most_young (slots_of settings) in
+    let start = opened settings upstream held 0 in
+    added_weaker xs zs (HasCome settings most start how first now (IsAtRest first) came.trace end)
+    (λ (more : List Timed). IsAtRest first → SurvivesSent settings most start first now more came.trace end.last.kept) came.told
+    (λ more h rest. leaves_at_so first now (MeansAt settings most start more came.trace end.last.kept)
+    (λ (m : ℕ) (image : ℕ → ℕ). HoldsSent settings most upstream m (time_at m more came.trace (time_in start)) end.last.kept more image)
+    (λ m late image means. holds_sent settings most upstream m start more came.trace end image (opened_sound settings upstream 0 held store) h.0 means) (h.2 rest).1)
+
 -- What a gateway has done that opened a store: it runs from what the disk held.
 pub has_run : (settings : SettingsValue) (upstream : ℕ) (now : AgentValue) (how : Answer) (first mid end : Option Media) (xs ys zs : Option (List Timed))
     → KeepsActs xs ys → Added ys zs (λ _. Unit {0}) → IsFor settings upstream now → IsIn now (opened settings upstream now.store.exchanges 0)
@@ -86,15 +103,15 @@ has_run settings upstream now how first mid end xs ys zs keeps adds of is_in ope
       store = subst (λ (m : ℕ). IsStore m now.store.exchanges) many is_in.joined.order;
       was_held = λ seen sees. (opened_it seen sees).0;
       came = λ follows.
-          let came = comes start is_in (followed_since ((seen : ℕ → ℕ) × Sees first seen) Rests xs ys zs keeps adds (λ told. (opened_it told.0 told.1).1) follows) in (
-            came.0,
-            came_since settings most start how first mid end Rests xs ys zs came.0 keeps
-                (λ rest. (opened_it rest.0 (sees_at_rest first rest.0 rest.1)).1)
-                (λ rest. leaves_as first mid (λ image. Holds settings image (entries_of now.store.exchanges)) (HoldsAlike settings most (time_in start) start.kept)
-                (λ image held. the_holds settings most now start (time_in start) image is_in many (own_time settings most now start is_in) held)
-                (moments rest.0 (entries_of now.store.exchanges) rest.1 (opened_it rest.0 (sees_at_rest first rest.0 rest.1)).0))
-                came.1,
-          );
+          let comes_to = comes start is_in (followed_since ((seen : ℕ → ℕ) × Sees first seen) Rests xs ys zs keeps adds (λ told. (opened_it told.0 told.1).1) follows) in
+          let came : Came settings most start how first end (IsAtRest first) xs zs comes_to.0 =
+          came_since settings most start how first mid end Rests xs ys zs comes_to.0 keeps
+          (λ rest. (opened_it rest.0 (sees_at_rest first rest.0 rest.1)).1)
+          (λ rest. leaves_as first mid (λ image. Holds settings image (entries_of now.store.exchanges)) (HoldsAlike settings most (time_in start) start.kept)
+          (λ image held. the_holds settings most now start (time_in start) image is_in many (own_time settings most now start is_in) held)
+          (moments rest.0 (entries_of now.store.exchanges) rest.1 (opened_it rest.0 (sees_at_rest first rest.0 rest.1)).0))
+          comes_to.1 in
+          (comes_to.0, came, sent_too settings upstream how now.store.exchanges first end xs zs comes_to.0 (subst (λ (m : ℕ). IsStore m now.store.exchanges) many is_in.joined.order) came);
     }
 
 -- what is found again completes

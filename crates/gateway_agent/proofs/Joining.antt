@@ -1,22 +1,21 @@
 -- A gateway and its store go together, whatever time comes and whatever is new.
-use Rattle.std.proofs.Common.{◌≡◌, ℕ, ◌+◌, ◌<◌, ◌≤◌, ◌⊎◌, inl, inr, Bool, true, false, cond, max, List, [], ◌∷◌, ◌++◌, length, map, refl, sym, ap, subst, ◌∙◌, arith}
-use Rattle.std.specs.Prelude.{◌^◌, ◌-◌, ◌==◌, ◌||◌, nat_le, nat_lt, not, Option, Some, None, Result, Ok, Err}
+use Rattle.std.proofs.Common.{◌≡◌, ℕ, ◌+◌, ◌<◌, ◌≤◌, inl, inr, Bool, true, false, max, List, [], ◌∷◌, ◌++◌, length, map, refl, sym, ap, subst, ◌∙◌, arith}
+use Rattle.std.specs.Prelude.{◌^◌, ◌-◌, ◌==◌, nat_le, not, Some}
 use Rattle.std.proofs.lemmas.Bool.{cond-true, cond-false, leb-true, leb-false, le-leb, lt-leb, not_from_true, not_from_false, or_parts, eqb-false, cases_lt}
 use Rattle.dots_settings.specs.Settings.{SettingsValue}
 use Rattle.dots_gateway.specs.declared.exchange.Exchange.{Exchange}
 use Rattle.dots_gateway.specs.declared.exchange.Waiting.{Waiting}
-use Rattle.dots_gateway.specs.Exchanges.{ExchangesValue, is_over, is_full, left_at, at_time, with_one, waiting_again, time_of}
+use Rattle.dots_gateway.specs.Exchanges.{ExchangesValue, is_over, is_full, left_at, at_time, with_one, waiting_again}
 use Rattle.dots_gateway.specs.Gateway.{GatewayValue, gateway_at}
-use Rattle.gateway_store.specs.Crashes.{AreAlike, HoldsYoung}
-use Rattle.gateway_store.specs.Exchanges.{IsStore, is_young, young_at, last_number, last_time, next_number, most_young}
+use Rattle.gateway_store.specs.Crashes.{AreAlike}
+use Rattle.gateway_store.specs.Exchanges.{IsStore, is_young, young_at, last_time, most_young}
 use Rattle.gateway_store.specs.Stores.{StoreValue, CanKeep}
 use Rattle.gateway_store.proofs.Orders.{number_more, time_more}
 use Rattle.gateway_store.proofs.Young.{is_more, is_same, young_time, number_small}
 use Rattle.gateway_store.proofs.Keeping.{young_with}
-use Rattle.gateway_agent.specs.Passing.{GatewayState}
-use Rattle.gateway_agent.specs.Keeping.{AreJoined, Counts, IsIn, IsOneMore, agent, exchanges_in}
+use Rattle.gateway_agent.specs.Keeping.{AreJoined, Counts, IsOneMore, exchanges_in}
 use Rattle.gateway_agent.specs.Turning.{HoldsAlike}
-use Rattle.gateway_agent.proofs.Fresh.{IsFresh, fresh_key, fresh_token, fresh_time, fresh_number}
+use Rattle.gateway_agent.proofs.Fresh.{IsFresh, fresh_key, fresh_time, fresh_number}
 
 -- ---- young ones at two times
 

@@ -1,28 +1,22 @@
 -- How a gateway begins with what a disk held.
-use Rattle.std.proofs.Common.{◌≡◌, ℕ, zero, suc, ◌+◌, ◌<◌, ◌≤◌, ◌⊎◌, inl, inr, Bool, true, false, cond, max, List, [], ◌∷◌, ◌++◌, length, map, length-append, refl, sym, ap, subst, ◌∙◌, arith}
-use Rattle.std.specs.Prelude.{◌^◌, ◌-◌, ◌&&◌, not, IsTrue, Option, Result, Ok, Err, IfOk}
-use Rattle.std.specs.List.{AllByRecursion}
-use Rattle.std.proofs.lemmas.Bool.{cond-true, cond-false, cases_lt, ltb-true}
+use Rattle.std.proofs.Common.{◌≡◌, ℕ, zero, suc, ◌<◌, ◌≤◌, ◌⊎◌, inl, inr, Bool, true, false, max, List, [], ◌∷◌, length, map, length-append, refl, sym, ap, subst, ◌∙◌, arith}
+use Rattle.std.specs.Prelude.{◌^◌, ◌-◌, not, Option, Result, Ok, Err, IfOk}
+use Rattle.std.proofs.lemmas.Bool.{cond-true, cases_lt}
 use Rattle.dots_disk.specs.Media.{Media}
-use Rattle.dots_disk.specs.Becoming.{Leaves, RestsWith}
-use Rattle.slot_store.specs.Gates.{Sees}
-use Rattle.slot_store.specs.Opening.{Is}
-use Rattle.slot_store.proofs.DiskReading.{sees_at_rest}
-use Rattle.slot_store.proofs.Steps.{leaves_as, seen_at_rest}
+use Rattle.dots_disk.specs.Becoming.{Leaves}
+use Rattle.slot_store.proofs.Steps.{leaves_as}
 use Rattle.dots_settings.specs.Settings.{SettingsValue}
-use Rattle.dots_history.specs.Bounds.{within_bounds}
 use Rattle.dots_gateway.specs.declared.exchange.Exchange.{Exchange}
 use Rattle.dots_gateway.specs.declared.exchange.Waiting.{Waiting}
 use Rattle.dots_gateway.specs.declared.routes.Route.{Route}
 use Rattle.dots_gateway.specs.Exchanges.{is_over, left_at, restored, time_of, waiting_again}
 use Rattle.dots_gateway.specs.Gateway.{GatewayValue, gateway_at}
 use Rattle.dots_gateway.specs.Routes.{routes_of}
-use Rattle.slot_journal.specs.DiskEntries.{HasRecord, Holds}
 use Rattle.slot_journal.specs.Sizes.{slots_of}
 use Rattle.slot_journal.proofs.Crashing.{one_history}
 use Rattle.gateway_store.specs.Crashes.{HoldsThe}
 use Rattle.gateway_store.specs.Exchanges.{IsStore, is_young, young_at, last_time, next_number, most_young}
-use Rattle.gateway_store.specs.Forms.{entry_of, entries_of}
+use Rattle.gateway_store.specs.Forms.{entries_of}
 use Rattle.gateway_store.specs.Stores.{StoreValue, IsOn}
 use Rattle.gateway_store.proofs.Keeping.{young_with}
 use Rattle.gateway_store.proofs.Orders.{ordered, time_dropped, time_more}

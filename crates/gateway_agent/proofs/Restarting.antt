@@ -1,32 +1,29 @@
 -- What must have failed where the events of a gateway stop, and what is found at a restart.
-use Rattle.std.proofs.Common.{◌≡◌, ◌≢◌, ℕ, ◌+◌, ◌<◌, ◌≤◌, ◌⊎◌, inl, inr, max, List, [], ◌∷◌, ◌++◌, length, map, Option, Some, None, refl, sym, ap, ◌∙◌, subst, append-nil, arith}
-use Rattle.std.specs.Prelude.{◌^◌, Err, Result}
+use Rattle.std.proofs.Common.{◌≡◌, ◌≢◌, ℕ, ◌+◌, ◌≤◌, max, List, [], Option, refl, sym, ap, ◌∙◌, subst, append-nil, arith}
+use Rattle.std.specs.Prelude.{Err}
 use Rattle.dots_host.specs.Causes.{Rose}
 use Rattle.dots_host.specs.declared.event.Event.TheVariants as event
 use Rattle.dots_host.specs.declared.event.What.{What}
 use Rattle.dots_host.specs.declared.event.What.TheVariants as what_is
 use Rattle.dots_host.specs.Acts.{Timed}
-use Rattle.dots_host.specs.Runs.{Added, Gives}
+use Rattle.dots_host.specs.Runs.{Gives}
 use Rattle.dots_host.proofs.RunLemmas.{added_weaker}
 use Rattle.dots_disk.specs.Media.{Media}
-use Rattle.dots_disk.specs.Becoming.{Leaves, RestsWith, KeepsMedia, IsMoment}
+use Rattle.dots_disk.specs.Becoming.{Leaves, RestsWith, IsMoment}
 use Rattle.dots_disk.specs.Beside.{KeepsActs}
-use Rattle.slot_store.proofs.Steps.{leaves_as, rests_as}
 use Rattle.dots_settings.specs.Settings.{SettingsValue}
 use Rattle.dots_gateway.specs.declared.exchange.Exchange.{Exchange}
-use Rattle.dots_gateway.specs.Exchanges.{waiting_again}
 use Rattle.slot_journal.specs.declared.fault.JournalFault.{JournalFault}
 use Rattle.slot_journal.specs.declared.fault.JournalFault.TheVariants as fault_is
 use Rattle.slot_journal.specs.Refused.{Caused}
-use Rattle.gateway_store.specs.Crashes.{HoldsThe, AreAlike}
-use Rattle.gateway_store.specs.Exchanges.{last_time, last_number, next_number, young_at, most_young}
-use Rattle.gateway_store.specs.Stores.{StoreValue, IsOn}
+use Rattle.gateway_store.specs.Exchanges.{next_number, young_at}
+use Rattle.gateway_store.specs.Stores.{IsOn}
 use Rattle.gateway_agent.specs.declared.stopping.GatewayHalt.{GatewayHalt}
 use Rattle.gateway_agent.specs.declared.stopping.GatewayHalt.TheVariants as halt
 use Rattle.gateway_agent.specs.declared.stopping.GatewayEnding.TheVariants as ending
-use Rattle.gateway_agent.specs.Passing.{GatewayState, Passes, begun, restarted, time_from}
-use Rattle.gateway_agent.specs.Keeping.{AgentValue, Counts, IsIn, agent}
-use Rattle.gateway_agent.specs.Turning.{HoldsAlike, HoldsTurn, Turned, TookBy, Took, IsTaken, most_of, time_in}
+use Rattle.gateway_agent.specs.Passing.{GatewayState, restarted, time_from}
+use Rattle.gateway_agent.specs.Keeping.{AgentValue, Counts, IsIn}
+use Rattle.gateway_agent.specs.Turning.{HoldsTurn, Took, IsTaken, most_of}
 use Rattle.gateway_agent.specs.Running.{StopsFor, EndsFor}
 use Rattle.gateway_agent.proofs.Joining.{counts_at}
 use Rattle.gateway_agent.proofs.Turning.{none_added, keeps_itself}

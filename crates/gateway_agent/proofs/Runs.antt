@@ -1,8 +1,7 @@
 -- A run that goes on by one event, and one that stops.
-use Rattle.std.proofs.Common.{◌≡◌, ◌≢◌, ℕ, ◌+◌, ◌≤◌, ◌⊎◌, inl, inr, List, [], ◌∷◌, ◌++◌, length, Option, Some, None, refl, sym, ap, ◌∙◌, ◌^◌, subst, arith, le_refl, append-nil, append_assoc}
-use Rattle.std.specs.Prelude.{Ok, Err, ⊤}
+use Rattle.std.proofs.Common.{◌≡◌, ◌≢◌, ℕ, ◌+◌, ◌≤◌, inr, List, [], ◌∷◌, ◌++◌, length, Option, Some, None, refl, sym, ap, ◌∙◌, ◌^◌, subst, arith, le_refl, append-nil, append_assoc}
+use Rattle.std.specs.Prelude.{Err}
 use Rattle.dots_host.specs.declared.event.Event.{Event}
-use Rattle.dots_host.specs.declared.event.Event.TheVariants as event
 use Rattle.dots_host.specs.declared.event.What.{What}
 use Rattle.dots_host.specs.declared.event.What.TheVariants as what_is
 use Rattle.dots_host.specs.declared.out.OwnedOut.{OwnedOut}
@@ -12,25 +11,23 @@ use Rattle.dots_host.proofs.RunLemmas.{added_none, added_weaker, added_then, add
 use Rattle.dots_disk.specs.Media.{Media}
 use Rattle.dots_disk.specs.Becoming.{Leaves, RestsWith, KeepsMedia, IsMoment}
 use Rattle.dots_disk.specs.Beside.{KeepsActs}
-use Rattle.slot_store.proofs.Steps.{leaves_as, rests_as}
+use Rattle.slot_store.proofs.Steps.{rests_as}
 use Rattle.slot_journal.proofs.Writing.{holds}
 use Rattle.slot_journal.specs.DiskEntries.{Holds, Represents, records_of}
-use Rattle.slot_journal.specs.Untaken.{IsFailure}
-use Rattle.slot_journal.specs.declared.fault.JournalFault.{JournalFault}
 use Rattle.slot_store.specs.StoreValues.{JournalValue}
 use Rattle.dots_settings.specs.Settings.{SettingsValue}
 use Rattle.dots_history.specs.declared.entry.Entry.{Entry}
 use Rattle.dots_gateway.specs.declared.exchange.Exchange.{Exchange}
 use Rattle.gateway_store.specs.Crashes.{HoldsThe}
-use Rattle.gateway_store.specs.Exchanges.{IsStore, last_time, most_young}
+use Rattle.gateway_store.specs.Exchanges.{IsStore, last_time}
 use Rattle.gateway_store.specs.Forms.{entries_of}
-use Rattle.gateway_store.specs.Stores.{StoreValue, IsOn}
+use Rattle.gateway_store.specs.Stores.{IsOn}
 use Rattle.gateway_agent.specs.declared.stopping.GatewayHalt.TheVariants as halt
-use Rattle.gateway_agent.specs.Passing.{GatewayState, Passes, step, restarted}
-use Rattle.gateway_agent.specs.Keeping.{AgentValue, IsIn, agent}
-use Rattle.gateway_agent.specs.Turning.{HoldsAlike, HoldsTurn, Turned, Broke, TookBy, BrokeBy, Took, BrokeOff, most_of, time_in}
-use Rattle.gateway_agent.specs.Surviving.{Story, past_of, NoneBefore, MeansAt, Survives}
-use Rattle.gateway_agent.specs.Running.{Answer, Stops, IsSettled, IsFound, HasCome, Came}
+use Rattle.gateway_agent.specs.Passing.{GatewayState, Passes}
+use Rattle.gateway_agent.specs.Keeping.{AgentValue, IsIn}
+use Rattle.gateway_agent.specs.Turning.{HoldsAlike, HoldsTurn, Turned, Took, most_of, time_in}
+use Rattle.gateway_agent.specs.Surviving.{Story, past_of, NoneBefore, MeansAt}
+use Rattle.gateway_agent.specs.Running.{Answer, Stops, HasCome}
 use Rattle.gateway_agent.proofs.Joining.{counts_at}
 use Rattle.gateway_agent.proofs.Surviving.{IsAt, told_by, story_length, story_then, gives_late, none_then, none_earlier, leaves_at_none, leaves_at_past, leaves_past, keeps_past, rests_still, event_on, turn_on, broken_on}
 use Rattle.gateway_agent.proofs.Turning.{none_added, in_time}

@@ -189,6 +189,9 @@ module _ (settings : SettingsValue) (most upstream m : ℕ) (start : GatewayStat
       let among = subst (Contains front) same there.among in
       young_from now means.holds.some x (subst (λ (xs : List Exchange). Contains xs x) (sym means.holds.alike.young) (young_in now front x among young))
 
+  of_kept : (number : ℕ) → WasSent upstream m number acts → (x : Exchange) × Contains end.last.kept x × (x.number ≡ number)
+  of_kept number sent = let there = in_the_front number sent in (there.x, in_front means.count end.last.kept there.x there.among, there.is)
+
   above : (number : ℕ) → WasSent upstream m number acts → number ≤ last_number means.holds.some
   above number sent =
       let there = in_the_front number sent in
@@ -198,7 +201,7 @@ module _ (settings : SettingsValue) (most upstream m : ℕ) (start : GatewayStat
       omega (arith, least, is, same)
 
   pub holds_sent : HoldsSent settings most upstream m now end.last.kept acts image
-  holds_sent = record { some = means.holds.some; holds = means.holds.holds; store = means.holds.store; has = has; above = above }
+  holds_sent = record { some = means.holds.some; holds = means.holds.holds; store = means.holds.store; of = of_kept; has = has; above = above }
 
 -- ---- the law
 

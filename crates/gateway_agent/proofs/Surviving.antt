@@ -1,12 +1,12 @@
 -- What a crash leaves, one part of a run after the other.
-use Rattle.std.proofs.Common.{◌≡◌, ℕ, ◌+◌, ◌<◌, ◌≤◌, ◌⊎◌, inl, inr, Bool, true, false, zero, suc, if◌then◌else◌, max, List, [], ◌∷◌, ◌++◌, length, take, Option, Some, None, refl, sym, ap, ◌∙◌, subst, arith, append_assoc, append-nil, length-append, le_refl}
+use Rattle.std.proofs.Common.{◌≡◌, ℕ, ◌+◌, ◌<◌, ◌≤◌, ◌⊎◌, inl, inr, Bool, true, false, zero, suc, if◌then◌else◌, List, [], ◌∷◌, ◌++◌, length, take, Option, Some, None, refl, sym, ap, ◌∙◌, subst, arith, append_assoc, append-nil, length-append, le_refl}
 use Rattle.std.specs.Prelude.{nat_lt}
 use Rattle.std.proofs.Math.Path.{fun_ext}
 use Rattle.std.proofs.lemmas.Bool.Decides.{nat_tests}
 use Rattle.dots_host.specs.declared.out.OwnedOut.{OwnedOut}
 use Rattle.dots_host.specs.declared.event.Event.{Event}
 use Rattle.dots_host.specs.Acts.{WireAct, took, gave, Timed}
-use Rattle.dots_host.specs.Runs.{Owing, resting, Trace, each_telling, IsSend, outs_of, Gives}
+use Rattle.dots_host.specs.Runs.{Owing, Trace, each_telling, IsSend, outs_of, Gives}
 use Rattle.dots_host.proofs.RunLemmas.{outs_back}
 use Rattle.dots_disk.specs.Media.{Medium, Media, IsImage, all_media}
 use Rattle.dots_disk.specs.Becoming.{EachMedium, KeepsMedia, Leaves, RestsWith}

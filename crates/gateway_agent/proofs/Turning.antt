@@ -3,7 +3,6 @@ use Rattle.std.proofs.Common.{◌≡◌, ℕ, ◌<◌, ◌≤◌, ◌⊎◌, inl
 use Rattle.std.specs.Prelude.{◌^◌, ◌==◌, Ok, Err}
 use Rattle.std.specs.Bool.{MatchBool}
 use Rattle.std.proofs.lemmas.Bool.{eq-eqb, ne_eqb, false≢true}
-use Rattle.dots_host.specs.declared.event.Event.{Event}
 use Rattle.dots_host.specs.declared.event.Event.TheVariants as event
 use Rattle.dots_host.specs.declared.event.What.{What}
 use Rattle.dots_host.specs.declared.event.What.TheVariants as what
@@ -21,15 +20,14 @@ use Rattle.dots_gateway.specs.declared.passed.Passed.{Passed}
 use Rattle.dots_gateway.specs.declared.passed.Passed.TheVariants as passed
 use Rattle.dots_gateway.specs.declared.passed.GatewayFault.{GatewayFault}
 use Rattle.dots_gateway.specs.declared.passed.GatewayFault.TheVariants as fault
-use Rattle.dots_gateway.specs.Exchanges.{with_one}
 use Rattle.dots_gateway.specs.Gateway.{GatewayValue, Said, gateway_at, UpOrLacks, DownOrLacks}
 use Rattle.gateway_store.specs.Crashes.{AreAlike, HoldsYoung}
 use Rattle.gateway_store.specs.Exchanges.{last_time, most_young}
 use Rattle.gateway_store.specs.Stores.{StoreValue, IsOn}
 use Rattle.gateway_agent.specs.Passing.{GatewayState, GoesUp, GoesDown, Passes, FaultSends, fresh_in, sends_of, state_at}
 use Rattle.gateway_agent.specs.Keeping.{AgentValue, AreJoined, CanKeepAll, Counts, HoldsMore, IsIn, IsMore, agent}
-use Rattle.gateway_agent.specs.Turning.{HoldsAlike, HoldsTurn, Turned, Broke, TookBy, BrokeBy, Took, BrokeOff, IsTaken, most_of, time_in}
-use Rattle.gateway_agent.proofs.Fresh.{IsFresh, fresh_of, fresh_token, fresh_time}
+use Rattle.gateway_agent.specs.Turning.{HoldsAlike, HoldsTurn, Turned, TookBy, BrokeBy, Took, BrokeOff, IsTaken, most_of, time_in}
+use Rattle.gateway_agent.proofs.Fresh.{fresh_of, fresh_token, fresh_time}
 use Rattle.gateway_agent.proofs.Joining.{alike_then, alike_more, counts_at, counts_more, fresh_can, joined_at, joined_more}
 
 -- ---- calls of one side

@@ -25,11 +25,12 @@ abbrev pub WasSent : ℕ → ℕ → ℕ → List Timed → Type 0
 WasSent upstream m number [] = ⊥
 WasSent upstream m number (timed ∷ acts) = ((timed.moment < m) × IsHanded upstream number timed.act) ⊎ WasSent upstream m number acts
 
--- The image holds a store. In it is each exchange of which a packet was sent before and that is at most 246 s old, and its last number isn't
--- below that of any packet.
+-- Each packet that was sent before is of one of the exchanges that were kept. The image holds a store. In it is each of these of which a packet was
+-- sent before and that is at most 246 s old, and its last number isn't below that of any packet.
 pub record HoldsSent (settings : SettingsValue) (most upstream m now : ℕ) (kept : List Exchange) (acts : List Timed) (image : ℕ → ℕ) : Type 0 where
   pub some : List Exchange
   pub holds : HoldsThe settings some image
   pub store : IsStore most some
+  pub of : (number : ℕ) → WasSent upstream m number acts → (x : Exchange) × Contains kept x × (x.number ≡ number)
   pub has : (number : ℕ) (x : Exchange) → WasSent upstream m number acts → Contains kept x → x.number ≡ number → is_young now x ≡ true → Contains some x
   pub above : (number : ℕ) → WasSent upstream m number acts → number ≤ last_number some
