@@ -25,8 +25,8 @@ one_token a b small fits same = sym (from_be_bytes-to_be_bytes_8 a small) ∙ ap
 -- so it is a packet under no other number
 pub one_number : (number other : ℕ) (bytes : List ℕ) → number < 2 ^ 64 → IsNumbered number bytes → IsPacket other bytes → number ≡ other
 one_number number other bytes small is packet =
-    one_token number other small packet.4
-    (sym (token_of is.m number is.token) ∙ ap (λ (l : List ℕ). take 8 (drop 4 l)) (sym is.spelled ∙ packet.2) ∙ token_of packet.0 other packet.5)
+    one_token number other small packet.3
+    (sym (token_of is.m number is.token) ∙ ap (λ (l : List ℕ). take 8 (drop 4 l)) (sym is.spelled ∙ packet.1) ∙ token_of packet.0 other packet.4)
 
 -- ---- what is no request
 
@@ -49,4 +49,4 @@ not_both is other = absurd (cc)
 
 pub none_asked : (r : CoapMessage) → may_be_asked r.code ≡ false → IsNone (spelling r)
 none_asked r other number packet =
-    not_both (asked_code packet.0 packet.3) (sym (ap (λ (l : List ℕ). may_be_asked (get_or l 1 0)) packet.2) ∙ other)
+    not_both (asked_code packet.0 packet.2) (sym (ap (λ (l : List ℕ). may_be_asked (get_or l 1 0)) packet.1) ∙ other)

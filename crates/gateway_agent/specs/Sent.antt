@@ -1,7 +1,7 @@
 -- What the packets that were sent to the upstream are of, in the words of a run.
 use Rattle.std.specs.Prelude.{◌≡◌, ◌⊎◌, ℕ, ◌^◌, ◌<◌, ◌≤◌, true, List, [], ◌∷◌, Contains}
 use Rattle.std.specs.Int.{w64, to_be_bytes}
-use Rattle.coap_message.specs.Message.{CoapMessage, IsMessage, spelling}
+use Rattle.coap_message.specs.Message.{CoapMessage, spelling}
 use Rattle.dots_host.specs.declared.out.OwnedOut.TheVariants as owned
 use Rattle.dots_host.specs.Acts.{WireAct, gave, Timed}
 use Rattle.dots_settings.specs.Settings.{SettingsValue}
@@ -13,7 +13,7 @@ use Rattle.gateway_store.specs.Exchanges.{IsStore, is_young, last_number}
 -- a request that was passed on under the number, which is one of 8 bytes: these are its token
 abbrev pub IsPacket : ℕ → List ℕ → Type 0
 IsPacket number bytes =
-    (m : CoapMessage) × IsMessage m × (bytes ≡ spelling m) × (is_request m ≡ true) × (number < 2 ^ 64) × (m.token ≡ to_be_bytes w64 number)
+    (m : CoapMessage) × (bytes ≡ spelling m) × (is_request m ≡ true) × (number < 2 ^ 64) × (m.token ≡ to_be_bytes w64 number)
 
 -- it was handed to the wire for the upstream
 abbrev pub IsHanded : ℕ → ℕ → WireAct → Type 0
