@@ -1,12 +1,12 @@
-//! The program `dots`: it hands [`run_program`], or with the words `serve ..` [`run_sockets`], with `ask ..` [`ask_sockets`], with
-//! `protect ..` [`protect_sockets`], with `check-ask ..` [`check_client`] and with those that ask about a host file [`check_host`], the
-//! words of its command line, the real files and streams, and the runtime, and ends with its status.
+//! The program `dots`: it hands [`run_program`], or with the words `serve ..` [`run_sockets`], with `gateway ..` [`gateway_sockets`], with
+//! `ask ..` [`ask_sockets`], with `protect ..` [`protect_sockets`], with `check-ask ..` [`check_client`] and with those that ask about a
+//! host file [`check_host`], the words of its command line, the real files and streams, and the runtime, and ends with its status.
 #![tactic(auto)]
 
 use dots_lists::NoMemory;
 use dots_run::{
-    ask_sockets, check_client, check_host, host_task, is_ask, is_check_ask, is_protect, is_serve,
-    protect_sockets, run_program, run_sockets,
+    ask_sockets, check_client, check_host, gateway_sockets, host_task, is_ask, is_check_ask,
+    is_gateway, is_protect, is_serve, protect_sockets, run_program, run_sockets,
 };
 use std::io::ErrorKind;
 use std::process::ExitCode;
@@ -36,6 +36,10 @@ fn main(rt: HostRuntime) -> ExitCode {
         if is_serve(list.as_slice()) {
             let served = run_sockets(rt.alloc(), list.as_slice(), opening, &rt, report);
             return ExitCode::from(served.into_status());
+        }
+        if is_gateway(list.as_slice()) {
+            let passed = gateway_sockets(rt.alloc(), list.as_slice(), opening, &rt, report);
+            return ExitCode::from(passed.into_status());
         }
         if is_ask(list.as_slice()) {
             let asked = ask_sockets(rt.alloc(), list.as_slice(), opening, &rt, report);

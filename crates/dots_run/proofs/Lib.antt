@@ -17,3 +17,4 @@ mod Leaving
 mod HostReporting
 mod OverSockets
 mod ClientReporting
+mod Gateways

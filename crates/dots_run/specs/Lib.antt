@@ -11,3 +11,4 @@ pub mod Leaving
 pub mod HostReports
 pub mod Load
 pub mod Clients
+pub mod Gateways

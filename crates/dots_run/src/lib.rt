@@ -7,7 +7,7 @@
 //! `specs/Reporting.antt` says which, `specs/Usage.antt` has the texts that no file decides, and those of files are in `file_checks`.
 //!
 //! A client over sockets is [`ask_sockets`], one that asks once [`protect_sockets`], and what the settings of a client come to
-//! [`check_client`] tells: `specs/Clients.antt`.
+//! [`check_client`] tells: `specs/Clients.antt`. A gateway over sockets is [`gateway_sockets`]: `specs/Gateways.antt`.
 //!
 //! A generated run, [`run_load`], has a host of its own. Its report is a function of its number ([`one_load_text`]), and `specs/Load.antt` says which.
 #![tactic(auto)]
@@ -16,13 +16,13 @@ mod again;
 mod blocks;
 mod client;
 mod client_report;
+mod gateway;
 mod host_report;
 mod laws;
 mod load;
 mod outcome;
 mod program;
 mod protect;
-mod refusals;
 mod reporting;
 mod running;
 mod scripted;
@@ -39,6 +39,8 @@ pub use blocks::{Ended, run_blocks};
 pub use client::ask_sockets;
 pub use client_report::{ClientChecked, check_client};
 pub use dots_script::ScriptHost;
+pub use gateway::gateway_sockets;
+pub use gateway_command::is_gateway;
 pub use host_report::{HostChecked, check_host, host_task};
 pub use laws::{one_load_text, one_text};
 pub use load::run_load;

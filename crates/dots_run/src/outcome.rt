@@ -21,7 +21,6 @@ ghost use Rattle.dots_server.specs.ServerValues.{IsKept};
 ghost use Rattle.dots_server.specs.Running.{Came, IsFollowed};
 ghost use Rattle.dots_run.specs.Refusals.{Counts, Wrote, WritesStop};
 
-use crate::refusals::write_refusal;
 use crate::words::{is_served, word_to_show};
 use dots_disk::Host;
 use dots_host::{MAX_EVENT_BYTES, Sink, Source, write_all};
@@ -30,6 +29,7 @@ use dots_machine::{Ending, Printing, Stop};
 use dots_server::{Server, take_events};
 use dots_settings::{Settings, SettingsFault, read_settings};
 use message_text::{Printed, lines_of};
+use refusal_lines::write_refusal;
 use std::alloc::Global;
 
 /// Does what the words ask of the machine, and answers the exit status. With `replay SETTINGS` the settings are read

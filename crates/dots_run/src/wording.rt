@@ -13,6 +13,9 @@ dots replay SETTINGS   serves a script of datagrams, which it reads from standar
                        end the filters that stand
 dots serve SETTINGS HOSTFILE
                        serves what comes to the sockets that a host file names, and keeps the journal in a file
+dots gateway SETTINGS HOSTFILE
+                       passes the requests of the settings' clients on to their upstream, over the sockets that a host file
+                       names, and what is answered back: prints at the end how many wait
 dots ask SETTINGS HOSTFILE
                        asks a server for what the settings of a client say, over the sockets that a host file names:
                        prints at the end what is granted
@@ -49,11 +52,11 @@ The exit status, and what to do:
       the settings is one
   4   no memory was found: free some, and begin again
   5   the settings or the script can't be read, or a line is no script line: dots check-script says which, and why.
-      With serve, ask and protect: the settings can't be read, or the sockets failed; with the last two also what 6 says
-      of the host file
-  6   a call of the disk failed. What was answered is on it: see what it lacks, and begin again. With serve also: the
-      host file can't be read or has a fault, a socket can't be bound, or another server has the journal: dots check
-      SETTINGS HOSTFILE names what it can see
+      With serve, gateway, ask and protect: the settings can't be read, or the sockets failed; with the last two also what
+      6 says of the host file
+  6   a call of the disk failed. What was answered is on it: see what it lacks, and begin again. With serve and gateway
+      also: the host file can't be read or has a fault, a socket can't be bound, or another program has the journal: dots
+      check SETTINGS HOSTFILE names what it can see
   7   the disk holds something that isn't a journal of this program. What is printed is the first such place
   8   the journal was written under other settings, and the digests of both are printed: take those again
   9   standard output can't be written: look where it goes

@@ -1,0 +1,4 @@
+pub mod Commands
+pub mod Report
+pub mod Running
+pub mod Outcomes
