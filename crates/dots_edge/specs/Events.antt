@@ -1,7 +1,8 @@
 -- What a part of the host hands in.
-use Rattle.std.specs.Prelude.{◌≡◌, ℕ, ◌≤◌, false, Some, unwrap_or, ⊤}
+use Rattle.std.specs.Prelude.{◌≡◌, ℕ, ◌≤◌, ◌<◌, ◌⊎◌, false, List, ◌∷◌, ◌++◌, take, Some, unwrap_or, ⊤}
 use Rattle.std.specs.declared.time.Duration.{Duration}
 use Rattle.dots_edge.specs.declared.connection.Connection.{Connection}
+use Rattle.dots_edge.specs.declared.answer.Answer.TheVariants as answer
 use Rattle.dots_edge.specs.declared.connection.Piece.{Piece}
 use Rattle.dots_edge.specs.declared.connection.Piece.TheVariants as piece
 use Rattle.dots_edge.specs.declared.sockets.Received.{Received}
@@ -26,3 +27,18 @@ AfterRead (piece.Bytes count) now old new = (new.moved ≡ now) × (new.asked �
 AfterRead piece.Nothing now old new = KeepsTimes old new × (new.ready ≡ false)
 AfterRead piece.Again now old new = KeepsTimes old new × (new.ready ≡ old.ready)
 AfterRead piece.Ended now old new = ⊤
+
+-- where bytes came, this holds
+abbrev pub OnBytes : Piece → Type 0 → Type 0
+OnBytes (piece.Bytes count) P = P
+OnBytes _ P = ⊤
+
+-- The socket was read once, and what it answered is what the read gives: its bytes stand at the front of the room. No bytes, or a failure, are the end.
+abbrev pub HasRead : Piece → List ℕ → Connection → Connection → Type 0
+HasRead (piece.Bytes count) room old new =
+    (0 < count) × (new.came.answers ≡ answer.Went count ∷ old.came.answers) × (new.came.bytes ≡ old.came.bytes ++ take count room)
+HasRead piece.Nothing room old new = (new.came.answers ≡ answer.Nothing ∷ old.came.answers) × (new.came.bytes ≡ old.came.bytes)
+HasRead piece.Again room old new = (new.came.answers ≡ answer.Again ∷ old.came.answers) × (new.came.bytes ≡ old.came.bytes)
+HasRead piece.Ended room old new =
+    ((new.came.answers ≡ answer.Went 0 ∷ old.came.answers) ⊎ (new.came.answers ≡ answer.Failed ∷ old.came.answers))
+    × (new.came.bytes ≡ old.came.bytes)

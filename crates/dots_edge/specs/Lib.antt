@@ -1,7 +1,9 @@
 pub mod Clocks
+pub mod Answers
 pub mod Passing
 pub mod Events
 pub mod Sends
+pub mod Idle
 pub mod Places
 pub mod Address
 pub mod Peers

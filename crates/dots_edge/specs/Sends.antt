@@ -1,6 +1,8 @@
 -- What becomes of what is sent on a connection.
-use Rattle.std.specs.Prelude.{◌≡◌, ℕ, ◌≤◌, ◌⊎◌, true, false, List, [], ◌++◌, length}
+use Rattle.std.specs.Prelude.{◌≡◌, ℕ, ◌+◌, ◌≤◌, ◌⊎◌, true, false, List, [], ◌∷◌, ◌++◌, length}
 use Rattle.std.specs.declared.time.Duration.{Duration}
+use Rattle.dots_edge.specs.declared.answer.Answer.{Answer}
+use Rattle.dots_edge.specs.declared.answer.Answer.TheVariants as answer
 use Rattle.dots_edge.specs.declared.connection.Connection.{Connection}
 use Rattle.dots_edge.specs.declared.connection.Piece.{Piece}
 use Rattle.dots_edge.specs.declared.connection.Piece.TheVariants as piece
@@ -30,3 +32,12 @@ pub record HasWrittenOn (result : Piece) (now : Duration) (old new : Connection)
   pub ends : result ≡ piece.Ended → (new.closing ≡ true) × (new.rest.bytes.items ≡ [])
   pub ended : new.closing ≡ true → new.rest.bytes.items ≡ [] → result ≡ piece.Ended
   pub same : (new.asked ≡ old.asked) × (new.ready ≡ old.ready)
+
+-- A turn wrote once. It gives nothing exactly where the socket took nothing, and then waits until it may take some.
+abbrev pub HasTried : Piece → Connection → Connection → Type 0
+HasTried piece.Nothing old new = (new.taken.answers ≡ answer.Nothing ∷ old.taken.answers) × (new.takes ≡ false)
+HasTried _ old new = length new.taken.answers ≡ length old.taken.answers + 1
+
+-- the socket took all of the bytes at one call
+abbrev pub TookAll : Connection → List ℕ → Connection → Type 0
+TookAll old bytes new = new.taken.answers ≡ answer.Went (length bytes) ∷ old.taken.answers

@@ -1,17 +1,21 @@
-ghost use Rattle.std.specs.Prelude.{◌≡◌, ◌==◌, ◌<◌, ◌≤◌, ◌++◌, ◌⊎◌, [], length, take, drop, true, false, not, None, Some, unwrap_or, if◌then◌else◌, IfOk, OnOk, OnErr};
-ghost use Rattle.dots_edge.specs.Events.{IsPiece, AfterRead};
-ghost use Rattle.dots_edge.specs.Sends.{all_sent, TookOn, TookOrKept, IsLost, HasWrittenOn};
+ghost use Rattle.std.specs.Prelude.{◌≡◌, ◌==◌, ◌<◌, ◌≤◌, ◌+◌, ◌∷◌, ◌++◌, ◌⊎◌, [], length, drop, true, false, not, None, Some, unwrap_or, if◌then◌else◌, is_ok, OnOk};
+ghost use Rattle.dots_edge.specs.Answers.{went};
+ghost use Rattle.dots_edge.specs.Events.{IsPiece, AfterRead, OnBytes, HasRead};
+ghost use Rattle.dots_edge.specs.Sends.{TookOn, TookOrKept, TookAll, IsLost, HasWrittenOn, HasTried};
+ghost use Rattle.dots_edge.specs.Idle.{is_kept, is_idle, is_sound, calls_of};
 ghost use Rattle.dots_edge.specs.Passing.{is_stale};
 
+use crate::answer::Answer;
+use crate::calls::{read_once, write_once};
 use crate::passing::have_passed;
 use crate::rest::Rest;
-use crate::taken::{Passed, Taken};
+use crate::socket_log::SocketLog;
 use dots_host::Sent;
 use mio::net::TcpStream;
 use mio::{Interest, Registry, Token};
 use std::alloc::Global;
 use std::io;
-use std::io::{Error, ErrorKind, Read, Write};
+use std::io::Read;
 use std::net::Shutdown;
 use std::time::Duration;
 
@@ -59,8 +63,10 @@ pub struct Connection {
     broken: bool,
     /// Whether the server has closed it. It lives until the rest is written or a new connection needs its place.
     closing: bool,
+    /// What the socket gave.
+    came: SocketLog,
     /// What of the sends the socket took.
-    taken: Taken,
+    taken: SocketLog,
     /// What was sent and the socket hasn't taken yet.
     rest: Rest,
 }
@@ -78,11 +84,14 @@ impl Connection {
           asked = None;
           broken = false;
           closing = false;
+          came = result.came;
           taken = result.taken;
           rest = result.rest;
         } }
         ensures rest { result.rest.bytes.items ≡ [] }
+        ensures came { result.came.bytes ≡ [] }
         ensures taken { result.taken.bytes ≡ [] }
+        ensures sound { is_sound result ≡ true }
     {
         Connection {
             stream,
@@ -94,14 +103,16 @@ impl Connection {
             asked: None,
             broken: false,
             closing: false,
-            taken: Taken::new(),
+            came: SocketLog::new(),
+            taken: SocketLog::new(),
             rest: Rest::new(alloc),
         }
     }
 
     /// Something may have come, or the socket may take more.
     pub fn mark(&mut self)
-        ensures { self.new ≡ record self.old { ready = true; takes = true } }
+        ensures marked { self.new ≡ record self.old { ready = true; takes = true } }
+        ensures sound { is_sound self.new ≡ true }
     {
         self.ready = true;
         self.takes = true;
@@ -119,10 +130,22 @@ impl Connection {
         // Where nothing is kept it is a read, which changes nothing else.
         ensures after { self.old.rest.bytes.items ≡ [] → AfterRead result now self.old self.new }
         ensures kept { self.old.rest.bytes.items ≡ [] →
-            self.new ≡ record self.old { moved = self.new.moved; asked = self.new.asked; ready = self.new.ready } }
+            self.new ≡ record self.old { moved = self.new.moved; asked = self.new.asked; ready = self.new.ready; came = self.new.came } }
         ensures closing { self.new.closing ≡ self.old.closing }
+        // Nothing comes on one that the server has closed.
+        ensures open { OnBytes result (self.old.closing ≡ false) }
+        // It gives nothing exactly where nothing can be done until a wait tells of it.
+        ensures idle { is_idle self.old ≡ true → (result ≡ Piece.Nothing) × (self.new ≡ self.old) }
+        ensures nothing { result ≡ Piece.Nothing → is_idle self.new ≡ true }
+        // Else the socket is called once, and what it answered is what the turn gives.
+        ensures read { self.old.broken ≡ false → self.old.closing ≡ false → self.old.rest.bytes.items ≡ [] → self.old.ready ≡ true →
+            HasRead result into.new self.old self.new }
+        ensures tried { self.old.broken ≡ false → 0 < length self.old.rest.bytes.items → self.old.takes ≡ true →
+            HasTried result self.old self.new }
+        ensures called { result ≡ Piece.Again → calls_of self.new ≡ calls_of self.old + 1 }
+        ensures sound { is_sound self.old ≡ true → is_sound self.new ≡ true }
     {
-        if self.broken {
+        if self.is_over() {
             return Piece::Ended;
         }
         if !self.rest.is_empty() {
@@ -134,26 +157,36 @@ impl Connection {
         self.read(into, now)
     }
 
+    /// Whether nothing comes or goes on it any more.
+    fn is_over(&self) -> bool
+        ensures over { result ≡ true → (self.now.broken ≡ true) ⊎ ((self.now.closing ≡ true) × (self.now.rest.bytes.items ≡ [])) }
+        ensures goes { result ≡ false → (self.now.broken ≡ false) × (self.now.rest.bytes.items ≡ [] → self.now.closing ≡ false) }
+    {
+        self.broken || self.closing && self.rest.is_empty()
+    }
+
     /// Reads what has come.
     fn read(&mut self, into: &mut [u8], now: Duration) -> Piece
+        requires { self.old.ready ≡ true }
         ensures piece { IsPiece result (length into.old) }
-        ensures kept { self.new ≡ record self.old { moved = self.new.moved; asked = self.new.asked; ready = self.new.ready } }
+        ensures kept { self.new ≡ record self.old { moved = self.new.moved; asked = self.new.asked; ready = self.new.ready; came = self.new.came } }
         ensures after { AfterRead result now self.old self.new }
+        ensures read { HasRead result into.new self.old self.new }
+        ensures called { calls_of self.new ≡ calls_of self.old + 1 }
+        ensures sound { is_sound self.old ≡ true → is_sound self.new ≡ true }
     {
-        match self.stream.read(into) {
-            Ok(0) => Piece::Ended,
-            Ok(count) => {
+        match read_once(&mut self.stream, &mut self.came, into) {
+            Answer::Went(0) => Piece::Ended,
+            Answer::Went(count) => {
                 self.hear(now);
                 Piece::Bytes(count)
             }
-            Err(error) => match error.kind() {
-                ErrorKind::WouldBlock => {
-                    self.ready = false;
-                    Piece::Nothing
-                }
-                ErrorKind::Interrupted => Piece::Again,
-                _ => Piece::Ended,
-            },
+            Answer::Nothing => {
+                self.ready = false;
+                Piece::Nothing
+            }
+            Answer::Again => Piece::Again,
+            Answer::Failed => Piece::Ended,
         }
     }
 
@@ -171,37 +204,45 @@ impl Connection {
         requires unbroken { self.old.broken ≡ false }
         requires rest { 0 < length self.old.rest.bytes.items }
         ensures piece { IsPiece result 0 }
+        ensures none { OnBytes result ⊥ }
         ensures written { HasWrittenOn result now self.old self.new ⊎ (IsLost self.new × (result ≡ Piece.Ended)) }
         ensures closing { self.new.closing ≡ self.old.closing }
+        ensures waits { self.old.takes ≡ false → (result ≡ Piece.Nothing) × (self.new ≡ self.old) }
+        ensures nothing { result ≡ Piece.Nothing → (self.new.takes ≡ false) × (self.new.rest.bytes.items ≡ self.old.rest.bytes.items) }
+        ensures tried { self.old.takes ≡ true → HasTried result self.old self.new }
+        ensures called { result ≡ Piece.Again → calls_of self.new ≡ calls_of self.old + 1 }
+        ensures sound { is_sound self.old ≡ true → is_sound self.new ≡ true }
     {
         if !self.takes {
             return Piece::Nothing;
         }
         match self.write_rest() {
-            Ok(Some(count)) => self.pass(count, now, registry),
-            Ok(None) => {
+            Answer::Went(count) => self.pass(count, now, registry),
+            Answer::Nothing => {
                 self.takes = false;
                 Piece::Nothing
             }
-            Err(_) => {
+            Answer::Again => Piece::Again,
+            Answer::Failed => {
                 self.lose();
                 Piece::Ended
             }
         }
     }
 
-    /// Has the socket take some of the rest, and answers how many bytes it took. None where it takes none now.
-    fn write_rest(&mut self) -> io::Result<Option<usize>>
+    /// Has the socket take some of the rest.
+    fn write_rest(&mut self) -> Answer
         ensures kept { self.new ≡ record self.old { taken = self.new.taken; rest = self.new.rest } }
         ensures took { TookOn self.old self.new }
         // What is kept are the last bytes, in their order.
-        ensures count { IfOk result (λ some. self.new.rest.bytes.items ≡ drop (unwrap_or some 0) self.old.rest.bytes.items) }
+        ensures count { self.new.rest.bytes.items ≡ drop (went result) self.old.rest.bytes.items }
+        ensures answers { self.new.taken.answers ≡ result ∷ self.old.taken.answers }
     {
-        let some = write_once(&mut self.stream, &mut self.taken, self.rest.as_slice())?;
-        if let Some(count) = some {
+        let answer = write_once(&mut self.stream, &mut self.taken, self.rest.as_slice());
+        if let Answer::Went(count) = answer {
             self.rest.pass(count);
         }
-        Ok(some)
+        answer
     }
 
     /// The socket took so many bytes of the rest now. A connection that the server has closed ends behind the last of them.
@@ -213,6 +254,9 @@ impl Connection {
         ensures closing { self.new.closing ≡ self.old.closing }
         ensures ends { result ≡ Piece.Ended → IsLost self.new ⊎ ((self.new.closing ≡ true) × (self.new.rest.bytes.items ≡ [])) }
         ensures ended { self.new.closing ≡ true → self.new.rest.bytes.items ≡ [] → result ≡ Piece.Ended }
+        ensures none { (result ≡ Piece.Again) ⊎ (result ≡ Piece.Ended) }
+        ensures logs { (self.new.came ≡ self.old.came) × (self.new.taken ≡ self.old.taken) }
+        ensures sound { is_sound self.old ≡ true → is_sound self.new ≡ true }
     {
         if count > 0 {
             self.moved = now;
@@ -236,6 +280,10 @@ impl Connection {
         ensures lost { result ≡ Sent.Lost → (self.new.broken ≡ true) × (self.new.ready ≡ true) }
         ensures left { result ≡ Sent.Lost → self.new.rest.bytes.items ≡ [] }
         ensures closing { self.new.closing ≡ self.old.closing }
+        // Where nothing was kept it is lost only where the socket didn't take all of the bytes.
+        ensures cause { result ≡ Sent.Lost → self.old.broken ≡ false → self.old.rest.bytes.items ≡ [] → self.old.told ≡ false →
+            TookAll self.old bytes.now self.new → ⊥ }
+        ensures sound { is_sound self.old ≡ true → is_sound self.new ≡ true }
     {
         if self.broken || self.give(bytes).is_err() || self.tell(registry).is_err() {
             self.lose();
@@ -250,12 +298,16 @@ impl Connection {
     fn give(&mut self, bytes: &[u8]) -> io::Result<()>
         ensures kept { self.new ≡ record self.old { takes = self.new.takes; taken = self.new.taken; rest = self.new.rest } }
         ensures sent { OnOk result (TookOrKept self.old bytes.now self.new) }
+        ensures takes { OnOk result (self.new.takes ≡ true) }
+        // Where the socket takes all at once nothing fails, and nothing is kept.
+        ensures all { self.old.rest.bytes.items ≡ [] → TookAll self.old bytes.now self.new →
+            (is_ok result ≡ true) × (self.new.rest.bytes.items ≡ []) }
     {
         if self.has_rest() {
-            self.write_rest()?;
+            self.write_rest().count()?;
         }
         let count = if self.rest.is_empty() {
-            write_once(&mut self.stream, &mut self.taken, bytes)?.unwrap_or(0)
+            write_once(&mut self.stream, &mut self.taken, bytes).count()?
         } else {
             0
         };
@@ -266,7 +318,9 @@ impl Connection {
 
     /// Has waits tell when the socket takes more, too, while there is a rest.
     fn tell(&mut self, registry: &Registry) -> io::Result<()>
-        ensures { self.new ≡ record self.old { told = self.new.told } }
+        ensures kept { self.new ≡ record self.old { told = self.new.told } }
+        ensures told { OnOk result (self.new.told ≡ is_kept self.old) }
+        ensures same { self.old.told ≡ is_kept self.old → is_ok result ≡ true }
     {
         let wanted = !self.rest.is_empty();
         if wanted == self.told {
@@ -294,7 +348,7 @@ impl Connection {
 
     /// Whether something is kept.
     pub fn has_rest(&self) -> bool
-        ensures { result ≡ not (length self.now.rest.bytes.items == 0) }
+        ensures { result ≡ is_kept self.now }
     {
         !self.rest.is_empty()
     }
@@ -315,7 +369,8 @@ impl Connection {
 
     /// The server has closed it. It lives until the rest is written or a new connection needs its place.
     pub fn begin_to_close(&mut self)
-        ensures { self.new ≡ record self.old { closing = true } }
+        ensures closing { self.new ≡ record self.old { closing = true } }
+        ensures sound { is_sound self.new ≡ is_sound self.old }
     {
         self.closing = true;
     }
@@ -346,27 +401,5 @@ impl Connection {
                 Err(_) => return,
             }
         }
-    }
-}
-
-/// How many of the bytes the socket takes in one write. None where it takes none now.
-fn write_once(stream: &mut TcpStream, taken: &mut Taken, bytes: &[u8]) -> io::Result<Option<usize>>
-    ensures count { IfOk result (λ some. unwrap_or some 0 ≤ length bytes.now) }
-    ensures taken { IfOk result (λ some. taken.new.bytes ≡ taken.old.bytes ++ take (unwrap_or some 0) bytes.now) }
-    ensures err { OnErr result (taken.new.bytes ≡ taken.old.bytes) }
-    ensures same { stream.new ≡ stream.old }
-{
-    match stream.write(bytes) {
-        Ok(0) if !bytes.is_empty() => Err(Error::from(ErrorKind::WriteZero)),
-        Ok(count) => {
-            let bytes = &bytes[..count];
-            *taken = taken.after(&Passed { bytes });
-            Ok(Some(count))
-        }
-        Err(error) => match error.kind() {
-            ErrorKind::WouldBlock => Ok(None),
-            ErrorKind::Interrupted => Ok(Some(0)),
-            _ => Err(error),
-        },
     }
 }

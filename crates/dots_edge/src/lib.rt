@@ -23,6 +23,8 @@
 #![tactic(auto)]
 
 mod address;
+mod answer;
+mod calls;
 mod connection;
 mod connections;
 mod ends;
@@ -35,8 +37,8 @@ mod peers;
 mod place;
 mod rest;
 mod seconds;
+mod socket_log;
 mod sockets;
-mod taken;
 
 pub use file_socket_host::FileSocketHost;
 pub use host_file::{

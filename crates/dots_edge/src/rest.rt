@@ -1,6 +1,6 @@
 //! What of its replies a socket hasn't taken yet.
 
-ghost use Rattle.std.specs.Prelude.{◌≡◌, ◌==◌, ◌++◌, ◌≤◌, [], length, drop, OnOk, OnErr};
+ghost use Rattle.std.specs.Prelude.{◌≡◌, ◌==◌, ◌++◌, ◌≤◌, [], length, drop, true, is_ok, OnOk, OnErr};
 
 use std::alloc::Global;
 use std::io;
@@ -41,7 +41,11 @@ impl Rest {
     pub fn keep(&mut self, more: &[u8]) -> io::Result<()>
         ensures kept { OnOk result (self.new.bytes.items ≡ self.old.bytes.items ++ more.now) }
         ensures refused { OnErr result (self.new.bytes.items ≡ self.old.bytes.items) }
+        ensures none { more.now ≡ [] → is_ok result ≡ true }
     {
+        if more.is_empty() {
+            return Ok(());
+        }
         if more.len() > MAX_REST - self.bytes.len() {
             return Err(Error::from(ErrorKind::OutOfMemory));
         }
