@@ -1,3 +1,5 @@
 pub mod CallLemmas
 pub mod Walks
 pub mod PlaceLemmas
+pub mod FollowLemmas
+pub mod SweepLemmas

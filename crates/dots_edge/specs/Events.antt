@@ -33,6 +33,11 @@ abbrev pub OnBytes : Piece → Type 0 → Type 0
 OnBytes (piece.Bytes count) P = P
 OnBytes _ P = ⊤
 
+-- where bytes came, this holds of how many they are
+abbrev pub IfBytes : Piece → (ℕ → Type 0) → Type 0
+IfBytes (piece.Bytes count) P = P count
+IfBytes _ P = ⊤
+
 -- The socket was read once, and what it answered is what the read gives: its bytes stand at the front of the room. No bytes, or a failure, are the end.
 abbrev pub HasRead : Piece → List ℕ → Connection → Connection → Type 0
 HasRead (piece.Bytes count) room old new =

@@ -22,3 +22,31 @@ is_sound connection =
 -- how often the socket was read or written to
 abbrev pub calls_of : Connection → ℕ
 calls_of connection = length connection.came.answers + length connection.taken.answers
+
+-- the same of a place, where nothing is to be done if no connection is there
+abbrev pub idle_at : Option Connection → Bool
+idle_at None = true
+idle_at (Some connection) = is_idle connection
+
+abbrev pub sound_at : Option Connection → Bool
+sound_at None = true
+sound_at (Some connection) = is_sound connection
+
+abbrev pub calls_at : Option Connection → ℕ
+calls_at None = 0
+calls_at (Some connection) = calls_of connection
+
+-- how many places have their turn before this one
+abbrev pub ahead : ℕ → ℕ → ℕ
+ahead turn place = (place + (128 - turn % 128)) % 128
+
+-- nothing is to be done at a place whose turn isn't among the next so many
+abbrev pub AreIdleBeyond : List (Option Connection) → ℕ → ℕ → Type 0
+AreIdleBeyond places turn looks = (place : ℕ) → place < 128 → looks ≤ ahead turn place → idle_at (get_or places place None) ≡ true
+
+abbrev pub AreSound : List (Option Connection) → Type 0
+AreSound places = (place : ℕ) → place < 128 → sound_at (get_or places place None) ≡ true
+
+-- nothing can be done at the place now, or its socket was called
+abbrev pub WasTried : Option Connection → Option Connection → Type 0
+WasTried old new = (idle_at new ≡ true) ⊎ (calls_at old < calls_at new)

@@ -1,5 +1,5 @@
 -- The places of the connections, and which are open for the server.
-use Rattle.std.specs.Prelude.{◌≡◌, ◌≢◌, ℕ, ◌<◌, ◌≤◌, Bool, true, false, not, Option, Some, None, is_some, IfSome, nat_lt, get_or, if◌then◌else◌, ⊤}
+use Rattle.std.specs.Prelude.{◌≡◌, ◌≢◌, ℕ, ◌+◌, ◌<◌, ◌≤◌, ◌⊎◌, ◌&&◌, Bool, true, false, not, List, ◌∷◌, ◌++◌, take, Option, Some, None, is_some, IfSome, nat_lt, get_or, if◌then◌else◌, ⊤}
 use Rattle.std.specs.Duration.{as_nanos}
 use Rattle.dots_host.specs.declared.out.Out.{Out}
 use Rattle.dots_host.specs.declared.out.Out.TheVariants as out
@@ -8,7 +8,11 @@ use Rattle.dots_host.specs.declared.out.Sent.TheVariants as sent
 use Rattle.dots_host.specs.declared.event.What.{What}
 use Rattle.dots_host.specs.declared.event.What.TheVariants as what
 use Rattle.std.specs.declared.time.Duration.{Duration}
+use Rattle.dots_edge.specs.declared.answer.Answer.TheVariants as answer
 use Rattle.dots_edge.specs.declared.connection.Connection.{Connection}
+use Rattle.dots_edge.specs.Passing.{is_stale}
+use Rattle.dots_edge.specs.Sends.{TookOrKept, IsLost}
+use Rattle.dots_edge.specs.Idle.{is_kept, idle_at, WasTried}
 use Rattle.dots_edge.specs.declared.connections.Connections.{Connections}
 
 -- the connection at the place, where one is
@@ -90,11 +94,12 @@ OthersStay old conn new = (other : ℕ) → other ≢ conn → is_open new other
 abbrev pub ClosesAt : Connections → Connections → ℕ → Type 0
 ClosesAt old new conn = (is_open old conn ≡ true) × (is_open new conn ≡ false) × OthersStay old conn new
 
--- What an event leaves of the connections that are open for the server: one that is opened wasn't, one that is closed was, and of all others it
--- is as before.
+-- What an event leaves of the connections that are open for the server: one that is opened wasn't, one that is closed was, bytes come on one that is,
+-- and of all others it is as before.
 abbrev pub Follows : Option What → Connections → Connections → Type 0
 Follows (Some (what.Opened conn from)) old new = (is_open old conn ≡ false) × (is_open new conn ≡ true) × OthersStay old conn new
 Follows (Some (what.Closed conn)) old new = ClosesAt old new conn
+Follows (Some (what.Piece conn len)) old new = (is_open old conn ≡ true) × SameOpen old new
 Follows _ old new = SameOpen old new
 
 -- What a send leaves of the connections that are open for the server: one that it closes isn't any more, and of all others it is as before. What
@@ -105,3 +110,74 @@ IsGiven (out.Close conn) sent.Lost old new = (is_open old conn ≡ false) × Sam
 IsGiven (out.Conn conn bytes) sent.Done old new = (is_open old conn ≡ true) × SameOpen old new
 IsGiven (out.Conn conn bytes) sent.Lost old new = SameOpen old new
 IsGiven (out.To peer bytes) _ old new = SameOpen old new
+
+-- ---- what is done at a place
+
+-- something may have come, or the socket may take more
+abbrev pub marked : Option Connection → Option Connection
+marked None = None
+marked (Some connection) = Some (record connection { ready = true; takes = true })
+
+-- whether something is kept there
+abbrev pub kept_at : Option Connection → Bool
+kept_at None = false
+kept_at (Some connection) = is_kept connection
+
+-- whether it was idle there or left its sender without an answer for too long
+abbrev pub stale_at : Duration → Option Connection → Bool
+stale_at now None = false
+stale_at now (Some connection) = is_stale connection.moved connection.asked now
+
+-- what is kept is tried again
+abbrev pub retried : Option Connection → Option Connection
+retried place = if kept_at place then marked place else place
+
+-- a connection that is stale goes, and what is kept of any other is tried again
+abbrev pub swept : Duration → Option Connection → Option Connection
+swept now place = if stale_at now place then None else retried place
+
+-- a stale connection there is open for the server
+abbrev pub ends_at : Duration → Option Connection → Bool
+ends_at now place = stale_at now place && is_opened place
+
+-- The places from the one to the other were swept, and all others are as before.
+abbrev pub AreSwept : Connections → Duration → ℕ → ℕ → Connections → Type 0
+AreSwept old now from to new = (place : ℕ) →
+    (from ≤ place → place < to → at_place new place ≡ swept now (at_place old place))
+    × ((place < from) ⊎ (to ≤ place) → at_place new place ≡ at_place old place)
+
+-- none from the one place to the other that is open for the server is stale
+abbrev pub NoneEnds : Connections → Duration → ℕ → ℕ → Type 0
+NoneEnds all now from to = (place : ℕ) → from ≤ place → place < to → ends_at now (at_place all place) ≡ false
+
+-- each connection was tried of which something could be done
+abbrev pub AreTried : Connections → Connections → Type 0
+AreTried old new = (place : ℕ) → place < 128 → WasTried (at_place old place) (at_place new place)
+
+-- nothing can be done of any connection until a wait tells of it
+abbrev pub AreIdle : Connections → Type 0
+AreIdle all = (place : ℕ) → place < 128 → idle_at (at_place all place) ≡ true
+
+-- the socket there was read once, and gave these bytes
+abbrev pub CameAt : Option Connection → List ℕ → Option Connection → Type 0
+CameAt (Some old) bytes (Some new) = new.came.bytes ≡ old.came.bytes ++ bytes
+CameAt _ bytes _ = ⊥
+
+-- where bytes came, this holds of the number and of how many they are
+abbrev pub OnPiece : Option What → (ℕ → ℕ → Type 0) → Type 0
+OnPiece (Some (what.Piece conn len)) P = P conn len
+OnPiece _ P = ⊤
+
+-- What a send at a place leaves. What is done goes behind all that was sent before, and what the socket hasn't taken of it is kept. Where it is lost no
+-- connection is open for the server there, and nothing changes, or the connection is of no use any more.
+abbrev pub IsSentAt : Option Connection → List ℕ → Sent → Option Connection → Type 0
+IsSentAt (Some old) bytes sent.Done (Some new) = (old.closing ≡ false) × TookOrKept old bytes new
+IsSentAt (Some old) bytes sent.Lost (Some new) = ((old.closing ≡ true) × (new ≡ old)) ⊎ IsLost new
+IsSentAt None bytes sent.Lost None = ⊤
+IsSentAt _ bytes _ _ = ⊥
+
+-- where something is kept it closes once that is written, and else at once
+abbrev pub closed_at : Option Connection → Option Connection
+closed_at None = None
+closed_at (Some connection) =
+    if connection.closing then Some connection else (if is_kept connection then Some (record connection { closing = true }) else None)

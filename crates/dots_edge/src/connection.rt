@@ -140,6 +140,7 @@ impl Connection {
         // Else the socket is called once, and what it answered is what the turn gives.
         ensures read { self.old.broken ≡ false → self.old.closing ≡ false → self.old.rest.bytes.items ≡ [] → self.old.ready ≡ true →
             HasRead result into.new self.old self.new }
+        ensures bytes { OnBytes result (HasRead result into.new self.old self.new) }
         ensures tried { self.old.broken ≡ false → 0 < length self.old.rest.bytes.items → self.old.takes ≡ true →
             HasTried result self.old self.new }
         ensures called { result ≡ Piece.Again → calls_of self.new ≡ calls_of self.old + 1 }

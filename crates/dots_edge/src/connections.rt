@@ -1,8 +1,9 @@
-ghost use Rattle.std.specs.Prelude.{◌≡◌, ◌==◌, ◌<◌, ◌+◌, ◌-◌, ◌%◌, ℕ, true, false, None, Some, is_some, if◌then◌else◌, length, vec_len, IfOk, IfSome};
+ghost use Rattle.std.specs.Prelude.{◌≡◌, ◌==◌, ◌<◌, ◌≤◌, ◌+◌, ◌-◌, ◌%◌, ◌⊎◌, ℕ, true, false, None, Some, is_some, if◌then◌else◌, length, take, vec_len, IfOk, IfSome};
 ghost use Rattle.dots_host.specs.Acts.{IsWithin, OnFailed};
 ghost use Rattle.dots_host.specs.declared.TheConstants.{MAX_EVENT_BYTES};
 ghost use Rattle.dots_edge.specs.Restarts.{OnRestart};
-ghost use Rattle.dots_edge.specs.Events.{IsPiece};
+ghost use Rattle.dots_edge.specs.Events.{IsPiece, OnBytes, IfBytes};
+ghost use Rattle.dots_edge.specs.Idle.{idle_at, calls_at, ahead, AreIdleBeyond, AreSound, WasTried};
 
 use crate::connection::{Connection, Piece};
 use crate::place::{close_at, closing_since, first_of, mark_at, send_at, turn_at};
@@ -27,10 +28,14 @@ pub struct Connections {
     /// The place from which on stale connections are closed.
     swept: usize,
     ghost sized: { vec_len places ≡ 128 },
+    // Nothing can be done at the places behind these before a wait tells of them.
+    ghost idle: { AreIdleBeyond places.items turn looks },
+    // That a connection has nothing to read, or takes nothing, is known from its socket.
+    ghost sound: { AreSound places.items },
 }
 
 impl Connections {
-    ghost use Rattle.dots_edge.specs.Places.{at_place, is_open, closing_since, AreTaken, MovedFirst, IsForOneMore, AreOpen, NoneCloses, SameBeside, SameOpen, OthersStay, ClosesAt, Follows};
+    ghost use Rattle.dots_edge.specs.Places.{at_place, is_open, closing_since, AreTaken, MovedFirst, IsForOneMore, AreOpen, NoneCloses, SameBeside, SameOpen, OthersStay, ClosesAt, Follows, marked, kept_at, stale_at, retried, swept, ends_at, AreSwept, NoneEnds, AreTried, AreIdle, CameAt, OnPiece, IsSentAt, closed_at};
 
     /// Places for connections, none of which is open.
     #[tactic(auto, using(crate::proofs::PlaceLemmas::none_more))]
@@ -126,6 +131,7 @@ impl Connections {
         ensures answer { result ≡ if is_open self.old place then Some place else None }
         ensures ended { at_place self.new place ≡ None }
         ensures beside { SameBeside self.old place self.new }
+        ensures kept { (self.new.turn ≡ self.old.turn) × (self.new.looks ≡ self.old.looks) × (self.new.swept ≡ self.old.swept) }
     {
         let connection = self.places.get_mut(place)?.take()?;
         if connection.is_closing() {
@@ -138,7 +144,8 @@ impl Connections {
 
     /// Whether none may have something to read, or a socket that takes some of its rest.
     pub fn is_drained(&self) -> bool
-        ensures { result ≡ (self.now.looks == 0) }
+        ensures looks { result ≡ (self.now.looks == 0) }
+        ensures idle { result ≡ true → AreIdle self.now }
     {
         self.looks == 0
     }
@@ -147,11 +154,14 @@ impl Connections {
     pub fn mark(&mut self, place: usize)
         ensures looks { self.new.looks ≡ 128 }
         ensures open { SameOpen self.old self.new }
+        ensures marked { at_place self.new place ≡ marked (at_place self.old place) }
+        ensures beside { SameBeside self.old place self.new }
+        ensures swept { self.new.swept ≡ self.old.swept }
     {
+        self.looks = MAX_CONNECTIONS;
         if let Some(place) = self.places.get_mut(place) {
             mark_at(place);
         }
-        self.looks = MAX_CONNECTIONS;
     }
 
     /// The next piece or end of a connection: one read or write of each in turn.
@@ -166,64 +176,57 @@ impl Connections {
         ensures event { IfSome result (λ what. OnFailed what ⊥) }
         ensures restart { IfSome result (λ what. OnRestart what ⊥) }
         ensures follows { Follows result self.old self.new }
+        // A piece is what the socket of its connection gave.
+        ensures came { OnPiece result (λ conn len. CameAt (at_place self.old conn) (take len into.new) (at_place self.new conn)) }
+        // There is none only where each connection was tried of which something could be done.
+        ensures none { result ≡ None → AreTried self.old self.new }
     {
         for _ in 0..MAX_CONNECTIONS {
             if self.looks == 0 {
                 return None;
             }
-            let place = self.pass();
-            if let Some(what) = self.look(place, into, now, registry) {
+            if let Some(what) = self.look(into, now, registry) {
                 return Some(what);
             }
         }
         None
     }
 
-    /// The place whose turn it is, which then is looked at.
-    fn pass(&mut self) -> usize
-        ensures place { result < 128 }
-        ensures turn { result ≡ self.old.turn % 128 }
-        ensures passed { self.new ≡ record self.old { turn = result + 1; looks = self.old.looks - 1 } }
-    {
-        let place = self.turn % MAX_CONNECTIONS;
-        self.turn = place + 1;
-        self.looks = self.looks.saturating_sub(1);
-        place
-    }
-
-    /// What a turn of the connection at the place gives.
-    fn look(
-        &mut self,
-        place: usize,
-        into: &mut [u8],
-        now: Duration,
-        registry: &Registry,
-    ) -> Option<What>
-        requires place { place < 128 }
+    /// What a turn of the connection gives whose turn it is.
+    fn look(&mut self, into: &mut [u8], now: Duration, registry: &Registry) -> Option<What>
+        requires looks { 0 < self.old.looks }
         requires room { length into.old ≡ MAX_EVENT_BYTES }
         ensures within { IfSome result (λ what. IsWithin what MAX_EVENT_BYTES) }
         ensures event { IfSome result (λ what. OnFailed what ⊥) }
         ensures restart { IfSome result (λ what. OnRestart what ⊥) }
         ensures follows { Follows result self.old self.new }
+        ensures turn { self.new.turn ≡ self.old.turn % 128 + 1 }
+        ensures beside { SameBeside self.old (self.old.turn % 128) self.new }
+        ensures place { OnPiece result (λ conn _. conn ≡ self.old.turn % 128) }
+        ensures came { OnPiece result (λ conn len. CameAt (at_place self.old conn) (take len into.new) (at_place self.new conn)) }
+        ensures none { result ≡ None →
+            WasTried (at_place self.old (self.old.turn % 128)) (at_place self.new (self.old.turn % 128)) }
     {
-        let conn = place as u32;
+        let place = self.turn % MAX_CONNECTIONS;
         match self.turn_of(place, into, now, registry) {
             Piece::Bytes(len) => {
-                self.looks = MAX_CONNECTIONS;
+                self.go_on(place);
+                let conn = place as u32;
                 Some(What::Piece { conn, len })
             }
-            Piece::Nothing => None,
-            Piece::Again => {
-                self.looks = MAX_CONNECTIONS;
+            Piece::Nothing => {
+                self.pass(place);
                 None
             }
-            Piece::Ended => match self.end(place) {
-                Some(conn) => Some(What::Closed { conn }),
-                None => None,
-            },
+            Piece::Again => {
+                self.go_on(place);
+                None
+            }
+            Piece::Ended => self.let_go(place),
         }
     }
 
+    /// A turn of the connection at the place.
     fn turn_of(
         &mut self,
         place: usize,
@@ -231,12 +234,57 @@ impl Connections {
         now: Duration,
         registry: &Registry,
     ) -> Piece
+        requires place { place < 128 }
+        requires looks { ahead self.old.turn place < self.old.looks }
         ensures piece { IsPiece result (length into.old) }
         ensures open { SameOpen self.old self.new }
+        ensures beside { SameBeside self.old place self.new }
+        ensures kept { (self.new.turn ≡ self.old.turn) × (self.new.looks ≡ self.old.looks) }
+        ensures nothing { result ≡ Piece.Nothing → idle_at (at_place self.new place) ≡ true }
+        ensures came_open { OnBytes result (is_open self.old place ≡ true) }
+        ensures came { IfBytes result (λ count. CameAt (at_place self.old place) (take count into.new) (at_place self.new place)) }
+        ensures called { result ≡ Piece.Again → calls_at (at_place self.old place) < calls_at (at_place self.new place) }
     {
         match self.places.get_mut(place) {
             Some(place) => turn_at(place, into, now, registry),
             None => Piece::Nothing,
+        }
+    }
+
+    /// The next place has the turn, and all are looked at.
+    fn go_on(&mut self, place: usize)
+        requires { place < 128 }
+        ensures turn { self.new.turn ≡ place + 1 }
+        ensures places { self.new.places ≡ self.old.places }
+    {
+        self.turn = place + 1;
+        self.looks = MAX_CONNECTIONS;
+    }
+
+    /// The next place has the turn, since nothing can be done at this one.
+    fn pass(&mut self, place: usize)
+        requires place { place ≡ self.old.turn % 128 }
+        requires idle { idle_at (at_place self.old place) ≡ true }
+        ensures turn { self.new.turn ≡ place + 1 }
+        ensures places { self.new.places ≡ self.old.places }
+    {
+        self.turn = place + 1;
+        self.looks = self.looks.saturating_sub(1);
+    }
+
+    /// Lets the connection go whose turn it is, and answers that it ended where the server hasn't closed it.
+    fn let_go(&mut self, place: usize) -> Option<What>
+        requires place { place ≡ self.old.turn % 128 }
+        ensures answer { result ≡ if is_open self.old place then Some (What.Closed place) else None }
+        ensures turn { self.new.turn ≡ place + 1 }
+        ensures ended { at_place self.new place ≡ None }
+        ensures beside { SameBeside self.old place self.new }
+    {
+        let ended = self.end(place);
+        self.pass(place);
+        match ended {
+            Some(conn) => Some(What::Closed { conn }),
+            None => None,
         }
     }
 
@@ -253,39 +301,64 @@ impl Connections {
         ensures range { IfSome result (λ conn. conn < 128) }
         ensures ended { IfSome result (ClosesAt self.old self.new) }
         ensures none { result ≡ None → SameOpen self.old self.new }
+        // The places up to that of the one that it answers were swept, or all of them.
+        ensures swept { AreSwept self.old now self.old.swept self.new.swept self.new }
+        ensures last { IfSome result (λ conn. (self.new.swept ≡ conn + 1) × (stale_at now (at_place self.old conn) ≡ true)) }
+        ensures first { IfSome result (λ conn. NoneEnds self.old now self.old.swept conn) }
+        ensures all { result ≡ None → (128 ≤ self.new.swept) × NoneEnds self.old now self.old.swept 128 }
     {
         for _ in 0..MAX_CONNECTIONS {
             if self.swept >= MAX_CONNECTIONS {
                 return None;
             }
-            let place = self.swept;
-            self.swept += 1;
-            if !self.is_stale(place, now) {
-                self.try_again(place);
-            } else if let Some(conn) = self.end(place) {
+            if let Some(conn) = self.sweep_one(now) {
                 return Some(conn);
             }
         }
         None
     }
 
+    /// Sweeps the next place: the connection there goes where it is stale, and else its rest is tried again.
+    fn sweep_one(&mut self, now: Duration) -> Option<u32>
+        requires { self.old.swept < 128 }
+        ensures answer { result ≡ if ends_at now (at_place self.old self.old.swept) then Some self.old.swept else None }
+        ensures swept { at_place self.new self.old.swept ≡ swept now (at_place self.old self.old.swept) }
+        ensures beside { SameBeside self.old self.old.swept self.new }
+        ensures next { self.new.swept ≡ self.old.swept + 1 }
+    {
+        let place = self.swept;
+        self.swept += 1;
+        if self.is_stale(place, now) {
+            return self.end(place);
+        }
+        self.try_again(place);
+        None
+    }
+
     /// The socket of the place may take some of its rest.
     fn try_again(&mut self, place: usize)
-        ensures { SameOpen self.old self.new }
+        ensures open { SameOpen self.old self.new }
+        ensures place { at_place self.new place ≡ retried (at_place self.old place) }
+        ensures beside { SameBeside self.old place self.new }
+        ensures swept { self.new.swept ≡ self.old.swept }
     {
         if self.has_rest(place) {
             self.mark(place);
         }
     }
 
-    fn has_rest(&self, place: usize) -> bool {
+    fn has_rest(&self, place: usize) -> bool
+        ensures { result ≡ kept_at (at_place self.now place) }
+    {
         match self.places.get(place) {
             Some(Some(connection)) => connection.has_rest(),
             _ => false,
         }
     }
 
-    fn is_stale(&self, place: usize, now: Duration) -> bool {
+    fn is_stale(&self, place: usize, now: Duration) -> bool
+        ensures { result ≡ stale_at now (at_place self.now place) }
+    {
         match self.places.get(place) {
             Some(Some(connection)) => connection.is_stale(now),
             _ => false,
@@ -296,6 +369,9 @@ impl Connections {
     pub fn send(&mut self, conn: u32, bytes: &[u8], now: Duration, registry: &Registry) -> Sent
         ensures done { result ≡ Sent.Done → is_open self.old conn ≡ true }
         ensures open { SameOpen self.old self.new }
+        // The bytes go behind all that was sent on it, and what its socket hasn't taken is kept. All other connections keep theirs.
+        ensures sent { IsSentAt (at_place self.old conn) bytes.now result (at_place self.new conn) }
+        ensures beside { SameBeside self.old conn self.new }
     {
         self.looks = MAX_CONNECTIONS;
         match self.places.get_mut(conn as usize) {
@@ -308,6 +384,8 @@ impl Connections {
     pub fn close(&mut self, conn: u32) -> Sent
         ensures done { result ≡ Sent.Done → ClosesAt self.old self.new conn }
         ensures lost { result ≡ Sent.Lost → (is_open self.old conn ≡ false) × SameOpen self.old self.new }
+        ensures place { at_place self.new conn ≡ closed_at (at_place self.old conn) }
+        ensures beside { SameBeside self.old conn self.new }
     {
         match self.places.get_mut(conn as usize) {
             Some(place) => close_at(place),

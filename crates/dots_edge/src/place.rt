@@ -1,8 +1,9 @@
 //! What stands at a place for a connection.
 
-ghost use Rattle.std.specs.Prelude.{◌≡◌, true, false, length};
-ghost use Rattle.dots_edge.specs.Events.{IsPiece};
-ghost use Rattle.dots_edge.specs.Places.{is_opened, closing_since, first_of};
+ghost use Rattle.std.specs.Prelude.{◌≡◌, ◌<◌, true, false, length, take, None};
+ghost use Rattle.dots_edge.specs.Events.{IsPiece, OnBytes, IfBytes};
+ghost use Rattle.dots_edge.specs.Idle.{idle_at, sound_at, calls_at};
+ghost use Rattle.dots_edge.specs.Places.{is_opened, marked, closed_at, closing_since, first_of, CameAt, IsSentAt};
 
 use crate::connection::{Connection, Piece};
 use dots_host::Sent;
@@ -11,7 +12,9 @@ use std::time::Duration;
 
 /// Something may have come at the place, or its socket may take more.
 pub fn mark_at(place: &mut Option<Connection>)
-    ensures { is_opened place.new ≡ is_opened place.old }
+    ensures opened { is_opened place.new ≡ is_opened place.old }
+    ensures marked { place.new ≡ marked place.old }
+    ensures sound { sound_at place.old ≡ true → sound_at place.new ≡ true }
 {
     if let Some(connection) = place {
         connection.mark();
@@ -27,6 +30,14 @@ pub fn turn_at(
 ) -> Piece
     ensures piece { IsPiece result (length into.old) }
     ensures opened { is_opened place.new ≡ is_opened place.old }
+    // It gives nothing exactly where nothing can be done.
+    ensures idle { idle_at place.old ≡ true → (result ≡ Piece.Nothing) × (place.new ≡ place.old) }
+    ensures nothing { result ≡ Piece.Nothing → idle_at place.new ≡ true }
+    // Bytes came on a connection that is open for the server, and are those that its socket gave.
+    ensures open { OnBytes result (is_opened place.old ≡ true) }
+    ensures came { IfBytes result (λ count. CameAt place.old (take count into.new) place.new) }
+    ensures called { result ≡ Piece.Again → calls_at place.old < calls_at place.new }
+    ensures sound { sound_at place.old ≡ true → sound_at place.new ≡ true }
 {
     match place {
         Some(connection) => connection.turn(into, now, registry),
@@ -43,6 +54,8 @@ pub fn send_at(
 ) -> Sent
     ensures done { result ≡ Sent.Done → is_opened place.old ≡ true }
     ensures opened { is_opened place.new ≡ is_opened place.old }
+    ensures sent { IsSentAt place.old bytes.now result place.new }
+    ensures sound { sound_at place.old ≡ true → sound_at place.new ≡ true }
 {
     match place {
         Some(connection) if !connection.is_closing() => connection.send(bytes, now, registry),
@@ -55,6 +68,9 @@ pub fn close_at(place: &mut Option<Connection>) -> Sent
     ensures done { result ≡ Sent.Done → is_opened place.old ≡ true }
     ensures lost { result ≡ Sent.Lost → is_opened place.old ≡ false }
     ensures closed { is_opened place.new ≡ false }
+    ensures place { place.new ≡ closed_at place.old }
+    ensures idle { idle_at place.old ≡ true → idle_at place.new ≡ true }
+    ensures sound { sound_at place.old ≡ true → sound_at place.new ≡ true }
 {
     match place {
         Some(connection) if connection.is_closing() => return Sent::Lost,
