@@ -22,6 +22,6 @@ follows_after (Some what.Failed) old between new same follows = λ conn. follows
 pub follows_end : (was : Bool) (old new : Connections) (place : ℕ) → is_open old place ≡ was → at_place new place ≡ None → SameBeside old place new → Follows (if was then Some (what.Closed place) else None) old new
 follows_end true old new place is ended beside = (is, ap is_opened ended, λ other ne. ap is_opened (beside other ne))
 follows_end false old new place is ended beside = λ conn. elim (cases_eq conn place) [
-    inl same ↦ ap (λ at. is_open new at) same ∙ ap is_opened ended ∙ sym is ∙ ap (λ at. is_open old at) (sym same)
+  | inl same ↦ ap (λ at. is_open new at) same ∙ ap is_opened ended ∙ sym is ∙ ap (λ at. is_open old at) (sym same)
   | inr other ↦ ap is_opened (beside conn other)
-  ]
+]

@@ -17,8 +17,8 @@ none_more (x ∷ places) none (suc place) = none_more places (λ other. none (su
 pub each_written : {X : Type 0} (places : List (Option X)) (at : ℕ) (new : Option X) (P : ℕ → Option X → Type 0) → at < length places → ((place : ℕ) → P place (get_or places place None)) → P at new → (place : ℕ) → P place (get_or (set places at new) place None)
 each_written places at new P inside old here place =
     elim (cases_eq place at) [
-      inl same ↦ subst (λ p. P p (get_or (set places at new) p None)) (sym same) (subst (P at) (sym (get_or-set_same places at new None inside)) here)
-    | inr other ↦ subst (P place) (sym (get_or-set_other places at place new None other)) (old place)
+      | inl same ↦ subst (λ p. P p (get_or (set places at new) p None)) (sym same) (subst (P at) (sym (get_or-set_same places at new None inside)) here)
+      | inr other ↦ subst (P place) (sym (get_or-set_other places at place new None other)) (old place)
     ]
 
 pub sound_written : (places : List (Option Connection)) (at : ℕ) (old new : Option Connection) → at < length places → old ≡ get_or places at old → AreSound places → (sound_at old ≡ true → sound_at new ≡ true) → AreSound (set places at new)
