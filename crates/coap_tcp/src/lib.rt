@@ -1,0 +1,16 @@
+//! CoAP messages in a stream of bytes (RFC 8323, section 3.2): the frames of TCP alone, without the rules of a connection.
+//!
+//! A [`Frames`] holds what came of a connection and isn't taken yet. [`Frames::take`] appends a piece, [`Frames::cut`]
+//! answers what stands at the front (a frame, the beginning of one, or a refusal), and [`Frames::discard`] drops a frame
+//! that is done. Only [`Frames::new`] takes memory.
+//!
+//! Contracts see a [`Frames`] as the bytes that it holds. Start reading at `specs/Frames.antt`, which says how a frame is
+//! spelled; `specs/FrameReading.antt` has what stands at the front of some bytes as a function of them.
+#![tactic(auto)]
+
+mod cutting;
+mod fault;
+mod frame;
+
+pub use fault::FrameFault;
+pub use frame::{Frame, FrameCut};
