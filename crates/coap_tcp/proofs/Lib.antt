@@ -1,3 +1,4 @@
 pub mod Rests
 pub mod Lengths
 pub mod Outcomes
+pub mod Streams

@@ -8,8 +8,10 @@ use Rattle.coap_message.proofs.Steps.{IsBytes, IsBytes-drop, IsBytes-rest}
 use Rattle.coap_message.proofs.Extended.{extended_takes}
 use Rattle.coap_tcp.specs.declared.fault.FrameFault.{FrameFault}
 use Rattle.coap_tcp.specs.declared.fault.FrameFault.TheVariants.{Token, TooLong, Options}
-use Rattle.coap_tcp.specs.Frames.{FrameValue, length_nibble, length_extension, frame_bytes, IsRest, IsFrame}
-use Rattle.coap_tcp.specs.FrameReading.{FrameOutcome, takes, waits, refuses, length_at, is_rest, with_rest, outcome_behind, with_length, frame_at}
+use Rattle.coap_tcp.specs.declared.frame.FrameCut as code
+use Rattle.coap_tcp.specs.declared.frame.FrameCut.TheVariants as cuts
+use Rattle.coap_tcp.specs.Frames.{FrameValue, length_nibble, length_extension, frame_bytes, IsRest, IsFrame, BeginsWith}
+use Rattle.coap_tcp.specs.FrameReading.{FrameOutcome, takes, waits, refuses, length_at, is_rest, with_rest, outcome_behind, with_length, frame_at, frame_value, outcome_of, IfFrame}
 use Rattle.coap_tcp.proofs.Rests.{rest_found, found_rest}
 use Rattle.coap_tcp.proofs.Lengths.{length_more, short_length, length_short, length_again, nibble_below, extension_below}
 
@@ -104,11 +106,8 @@ behind_found t n (code ∷ bytes) f fits e =
       parts = ap (λ (y : List ℕ). code ∷ y) (sym (take-append-drop t bytes) ∙ ap (λ (y : List ℕ). take t bytes ++ y) (sym (take-append-drop n (drop t bytes))));
     })
 
--- the bytes begin with this frame
-pub record Found (bytes : List ℕ) (f : FrameValue) : Type 0 where
-  pub is : IsFrame f
-  pub more : List ℕ
-  pub parts : bytes ≡ frame_bytes f ++ more
+abbrev pub Found : List ℕ → FrameValue → Type 0
+Found bytes f = (behind : List ℕ) × BeginsWith bytes f behind
 
 found_by : (first : ℕ) (bytes : List ℕ) (x : ℕ × List ℕ) (f : FrameValue) → IsBytes (first ∷ bytes) → first % 16 ≤ 8 → length_at (first / 16) bytes ≡ Some x → x.0 ≤ 4096 → outcome_behind (first % 16) x.0 x.1 ≡ takes f → Found (first ∷ bytes) f
 found_by first bytes x f fits token e le taken =
@@ -119,12 +118,13 @@ found_by first bytes x f fits token e le taken =
     let nib : length_nibble (length f.rest) ≡ first / 16 = short_nibble (length f.rest) short ∙ ap nibble b.size ∙ ext.nibble_is in
     let front : 16 * length_nibble (length f.rest) + length f.token ≡ first = omega (arith, nib, b.token) in
     let extension_is : length_extension (length f.rest) ≡ extension n = short_extension (length f.rest) short ∙ ap extension b.size in
-    let whole : bytes ≡ length_extension (length f.rest) ++ (f.code ∷ (f.token ++ (f.rest ++ b.more))) = ext.parts ∙ ap (λ (y : List ℕ). extension n ++ y) b.parts ∙ ap (λ (y : List ℕ). y ++ (f.code ∷ (f.token ++ (f.rest ++ b.more)))) (sym extension_is) in
-    record {
-      is = record { code = b.code; token = omega (arith, b.token, token); size = short; rest = b.rest };
-      more = b.more;
-      parts = ap (λ (y : List ℕ). first ∷ y) (whole ∙ sym (regroup (length_extension (length f.rest)) f.code f.token f.rest b.more)) ∙ ap (λ (k : ℕ). k ∷ ((((length_extension (length f.rest) ++ f.code ∷ []) ++ f.token) ++ f.rest) ++ b.more)) (sym front);
-    }
+    let whole : bytes ≡ length_extension (length f.rest) ++ (f.code ∷ (f.token ++ (f.rest ++ b.more))) = ext.parts ∙ ap (λ (y : List ℕ). extension n ++ y) b.parts ∙ ap (λ (y : List ℕ). y ++ (f.code ∷ (f.token ++ (f.rest ++ b.more)))) (sym extension_is) in (
+      b.more,
+      record {
+        is = record { code = b.code; token = omega (arith, b.token, token); size = short; rest = b.rest };
+        parts = ap (λ (y : List ℕ). first ∷ y) (whole ∙ sym (regroup (length_extension (length f.rest)) f.code f.token f.rest b.more)) ∙ ap (λ (k : ℕ). k ∷ ((((length_extension (length f.rest) ++ f.code ∷ []) ++ f.token) ++ f.rest) ++ b.more)) (sym front);
+      },
+    )
 
 length_found : (first : ℕ) (bytes : List ℕ) (r : Option (ℕ × List ℕ)) (f : FrameValue) → IsBytes (first ∷ bytes) → first % 16 ≤ 8 → length_at (first / 16) bytes ≡ r → with_length (first % 16) r ≡ takes f → Found (first ∷ bytes) f
 unfolding with_length
@@ -143,6 +143,15 @@ frame_found (first ∷ bytes) f fits e =
       | inl gt ↦ let t : ltb 8 (first % 16) ≡ true = lt-ltb 8 (first % 16) gt in absurd (let bad : refuses Token ≡ takes f = rw t at e in cc)
       | inr le ↦ let t : ltb 8 (first % 16) ≡ false = le-ltb 8 (first % 16) le in length_found first bytes (length_at (first / 16) bytes) f fits le refl (rw t at e)
     ]
+
+-- what stands behind a frame is the rest of the bytes
+pub found_behind : (bytes : List ℕ) (f : FrameValue) → Found bytes f → BeginsWith bytes f (drop (length (frame_bytes f)) bytes)
+found_behind bytes f found =
+    let left : drop (length (frame_bytes f)) bytes ≡ found.0 = ap (drop (length (frame_bytes f))) found.1.parts ∙ drop_at (frame_bytes f) found.0 (length (frame_bytes f)) refl in
+    subst (λ (y : List ℕ). BeginsWith bytes f y) (sym left) found.1
+
+pub found_size : (bytes : List ℕ) (f : FrameValue) → Found bytes f → (0 < length (frame_bytes f)) × (length (frame_bytes f) ≤ length bytes)
+found_size bytes f found = (omega arith, omega (arith, ap (λ (y : List ℕ). length y) found.1.parts, length-append (frame_bytes f) found.0))
 
 -- ---- what is decided stays where bytes follow
 
@@ -224,3 +233,17 @@ waits_short (first ∷ bytes) fits e =
           let low : first < 256 = fits 0 in
           omega (arith, length_waits (first % 16) (first / 16) (length_at (first / 16) bytes) bytes (IsBytes-rest first bytes fits) le (omega (arith, low)) refl (rw u at e))
     ]
+
+-- ---- what the code answers
+
+pub cut_begins : (held : List ℕ) (cut : code.FrameCut) → IsBytes held → outcome_of cut ≡ frame_at held → IfFrame cut (λ frame. frame.length ≡ length (frame_bytes (frame_value frame))) → IfFrame cut (λ frame. BeginsWith held (frame_value frame) (drop frame.length held))
+cut_begins held (cuts.Message frame) fits e size = subst (λ (n : ℕ). BeginsWith held (frame_value frame) (drop n held)) (sym size) (found_behind held (frame_value frame) (frame_found held (frame_value frame) fits (sym e)))
+cut_begins held cuts.More fits e size = tt
+cut_begins held (cuts.Refused fault) fits e size = tt
+
+pub cut_size : (held : List ℕ) (cut : code.FrameCut) → IsBytes held → outcome_of cut ≡ frame_at held → IfFrame cut (λ frame. frame.length ≡ length (frame_bytes (frame_value frame))) → IfFrame cut (λ frame. (0 < frame.length) × (frame.length ≤ length held))
+cut_size held (cuts.Message frame) fits e size =
+    let found = found_size held (frame_value frame) (frame_found held (frame_value frame) fits (sym e)) in
+    (omega (arith, size, found.0), omega (arith, size, found.1))
+cut_size held cuts.More fits e size = tt
+cut_size held (cuts.Refused fault) fits e size = tt

@@ -1,5 +1,5 @@
 -- A message in a stream of bytes, and its one spelling: a frame (RFC 8323, section 3.2).
-use Rattle.std.specs.Prelude.{ℕ, ◌+◌, ◌-◌, ◌*◌, ◌<◌, ◌≤◌, List, [], ◌∷◌, ◌++◌, length, nat_lt, if◌then◌else◌}
+use Rattle.std.specs.Prelude.{◌≡◌, ℕ, ◌+◌, ◌-◌, ◌*◌, ◌<◌, ◌≤◌, List, [], ◌∷◌, ◌++◌, length, nat_lt, if◌then◌else◌}
 use Rattle.std.specs.Int.{w32, to_be_bytes}
 use Rattle.coap_message.specs.Message.{CoapOption, nibble, extension}
 use Rattle.coap_message.specs.MessageReading.{Splits}
@@ -32,3 +32,8 @@ pub record IsFrame (f : FrameValue) : Type 0 where
   pub token : length f.token ≤ 8
   pub size : length f.rest ≤ 4096
   pub rest : IsRest f.rest
+
+-- the bytes begin with this frame, and these stand behind it
+pub record BeginsWith (bytes : List ℕ) (f : FrameValue) (behind : List ℕ) : Type 0 where
+  pub is : IsFrame f
+  pub parts : bytes ≡ frame_bytes f ++ behind

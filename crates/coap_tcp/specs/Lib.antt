@@ -1,2 +1,3 @@
 pub mod Frames
 pub mod FrameReading
+pub mod Streams

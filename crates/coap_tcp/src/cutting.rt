@@ -1,7 +1,7 @@
-ghost use Rattle.std.specs.Prelude.{◌≡◌, ◌+◌, ◌^◌, ◌<◌, ◌≤◌, length, IfSome};
+ghost use Rattle.std.specs.Prelude.{◌≡◌, ◌<◌, ◌≤◌, length, drop};
 ghost use Rattle.coap_message.specs.MessageReading.{Gives};
-ghost use Rattle.coap_tcp.specs.Frames.{length_extension, frame_bytes};
-ghost use Rattle.coap_tcp.specs.FrameReading.{IfFrame, frame_at, frame_value, is_rest, length_at, outcome_behind, outcome_of};
+ghost use Rattle.coap_tcp.specs.Frames.{BeginsWith, length_extension, frame_bytes};
+ghost use Rattle.coap_tcp.specs.FrameReading.{IfFrame, frame_at, frame_value, is_rest, length_at, outcome_behind, outcome_of, waits};
 
 use crate::fault::FrameFault;
 use crate::frame::{Frame, FrameCut};
@@ -93,9 +93,9 @@ fn cut_behind(token: usize, size: usize, bytes: &[u8]) -> FrameCut<'_>
     })
 }
 
-/// What stands at the front of the bytes.
+/// What stands at the front of the bytes, with the length of a frame.
 #[tactic(auto, unfolding(crate::specs::FrameReading::frame_at, crate::specs::FrameReading::with_length))]
-pub(crate) fn cut_held(bytes: &[u8]) -> FrameCut<'_>
+fn cut_front(bytes: &[u8]) -> FrameCut<'_>
     ensures cut { outcome_of result ≡ frame_at bytes.now }
     ensures length { IfFrame result (λ frame. frame.length ≡ length (frame_bytes (frame_value frame))) }
 {
@@ -113,4 +113,15 @@ pub(crate) fn cut_held(bytes: &[u8]) -> FrameCut<'_>
         return FrameCut::Refused(FrameFault::TooLong);
     }
     cut_behind(token, size, bytes)
+}
+
+/// What stands at the front of the bytes that are held.
+pub(crate) fn cut_held(held: &[u8]) -> FrameCut<'_>
+    ensures cut { outcome_of result ≡ frame_at held.now }
+    ensures begins { IfFrame result (λ frame. BeginsWith held.now (frame_value frame) (drop frame.length held.now)) }
+    ensures length { IfFrame result (λ frame. frame.length ≡ length (frame_bytes (frame_value frame))) }
+    ensures size { IfFrame result (λ frame. (0 < frame.length) × (frame.length ≤ length held.now)) }
+    ensures room { outcome_of result ≡ waits → length held.now < 4108 }
+{
+    cut_front(held)
 }

@@ -11,6 +11,8 @@
 mod cutting;
 mod fault;
 mod frame;
+mod frames;
 
 pub use fault::FrameFault;
 pub use frame::{Frame, FrameCut};
+pub use frames::Frames;
