@@ -234,6 +234,15 @@ waits_short (first ∷ bytes) fits e =
           omega (arith, length_waits (first % 16) (first / 16) (length_at (first / 16) bytes) bytes (IsBytes-rest first bytes fits) le (omega (arith, low)) refl (rw u at e))
     ]
 
+pub frame_size : (f : FrameValue) → IsFrame f → length (frame_bytes f) ≤ 4108
+frame_size f is =
+    let ext = length_extension (length f.rest) in
+    let bound : length ext ≤ 2 = subst (λ (y : List ℕ). length y ≤ 2) (sym (short_extension (length f.rest) is.size)) (extension_below (length f.rest)) in
+    let one = length-append ((ext ++ f.code ∷ []) ++ f.token) f.rest in
+    let two = length-append (ext ++ f.code ∷ []) f.token in
+    let three = length-append ext (f.code ∷ []) in
+    omega (arith, one, two, three, bound, is.token, is.size)
+
 -- ---- what the code answers
 
 pub cut_begins : (held : List ℕ) (cut : code.FrameCut) → IsBytes held → outcome_of cut ≡ frame_at held → IfFrame cut (λ frame. frame.length ≡ length (frame_bytes (frame_value frame))) → IfFrame cut (λ frame. BeginsWith held (frame_value frame) (drop frame.length held))

@@ -4,7 +4,7 @@ use Rattle.std.specs.Prelude.{◌⊎◌}
 use Rattle.std.specs.List.{AllByRecursion}
 use Rattle.std.proofs.lemmas.List.{append-nil}
 use Rattle.coap_tcp.specs.declared.fault.FrameFault.{FrameFault}
-use Rattle.coap_tcp.specs.Frames.{FrameValue, IsFrame, frame_bytes}
+use Rattle.coap_tcp.specs.Frames.{FrameValue, IsFrame, BeginsWith, frame_bytes}
 use Rattle.coap_tcp.specs.FrameReading.{FrameOutcome, takes, waits, refuses, frame_at}
 use Rattle.coap_tcp.specs.Streams.{frames_bytes, IsEnd, IsStream, joined, AreRead}
 use Rattle.coap_tcp.proofs.Outcomes.{frame_again, frame_still}
@@ -116,3 +116,17 @@ one_reading pieces others fs gs e p same x y =
     let b = read_stream [] others gs p y in
     let one = one_stream (joined others) fs gs e p a.0 b.0 (subst (λ (z : List ℕ). IsStream z fs e a.0) same a.1) b.1 in
     (one.0, one.1)
+
+-- ---- one frame
+
+pub begins_takes : (bytes : List ℕ) (f : FrameValue) (behind : List ℕ) → BeginsWith bytes f behind → frame_at bytes ≡ takes f
+begins_takes bytes f behind x = ap frame_at x.parts ∙ frame_again f behind x.is
+
+pub one_front : (bytes : List ℕ) (f g : FrameValue) (behind other : List ℕ) → BeginsWith bytes f behind → BeginsWith bytes g other → (f ≡ g) × (behind ≡ other)
+one_front bytes f g behind other x y =
+    let both : takes f ≡ takes g = sym (begins_takes bytes f behind x) ∙ begins_takes bytes g other y in
+    let one : f ≡ g = cc in
+    (one, left_same (frame_bytes f) behind other (sym x.parts ∙ y.parts ∙ ap (λ (h : FrameValue). frame_bytes h ++ other) (sym one)))
+
+pub refused_never : (bytes more behind : List ℕ) (fault : FrameFault) (f : FrameValue) → frame_at bytes ≡ refuses fault → BeginsWith (bytes ++ more) f behind → ⊥
+refused_never bytes more behind fault f e x = let bad : refuses fault ≡ takes f = sym (refused_still bytes more fault e) ∙ begins_takes (bytes ++ more) f behind x in cc

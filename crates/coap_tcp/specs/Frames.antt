@@ -1,8 +1,11 @@
 -- A message in a stream of bytes, and its one spelling: a frame (RFC 8323, section 3.2).
-use Rattle.std.specs.Prelude.{◌≡◌, ℕ, ◌+◌, ◌-◌, ◌*◌, ◌<◌, ◌≤◌, List, [], ◌∷◌, ◌++◌, length, nat_lt, if◌then◌else◌}
+use Rattle.std.specs.Prelude.{◌≡◌, ℕ, ◌+◌, ◌-◌, ◌*◌, ◌<◌, ◌≤◌, List, [], ◌∷◌, ◌++◌, length, slice_index, nat_lt, if◌then◌else◌}
 use Rattle.std.specs.Int.{w32, to_be_bytes}
 use Rattle.coap_message.specs.Message.{CoapOption, nibble, extension}
 use Rattle.coap_message.specs.MessageReading.{Splits}
+
+abbrev pub AreBytes : List ℕ → Type 0
+AreBytes bytes = (i : ℕ) → slice_index bytes i < 256
 
 -- in the standard's words; the rest is the options, and the marker and the payload
 pub record FrameValue : Type 0 where

@@ -12,6 +12,7 @@ mod cutting;
 mod fault;
 mod frame;
 mod frames;
+pub mod laws;
 
 pub use fault::FrameFault;
 pub use frame::{Frame, FrameCut};
