@@ -2,3 +2,4 @@ pub mod Rests
 pub mod Lengths
 pub mod Outcomes
 pub mod Streams
+pub mod Putting

@@ -21,9 +21,12 @@ length_nibble n = if nat_lt n 65805 then nibble n else 15
 abbrev pub length_extension : ℕ → List ℕ
 length_extension n = if nat_lt n 65805 then extension n else to_be_bytes w32 (n - 65805)
 
--- the length and the length of the token in one byte, the extension, the code, the token and the rest
+-- in front of a rest of n bytes: the length and the length of the token in one byte, the extension, the code and the token
+abbrev pub front_bytes : ℕ → List ℕ → ℕ → List ℕ
+front_bytes code token n = (16 * length_nibble n + length token) ∷ length_extension n ++ code ∷ [] ++ token
+
 abbrev pub frame_bytes : FrameValue → List ℕ
-frame_bytes f = (16 * length_nibble (length f.rest) + length f.token) ∷ length_extension (length f.rest) ++ f.code ∷ [] ++ f.token ++ f.rest
+frame_bytes f = front_bytes f.code f.token (length f.rest) ++ f.rest
 
 -- the bytes are options, and nothing or the marker and a payload
 abbrev pub IsRest : List ℕ → Type 0

@@ -1,3 +1,4 @@
 pub mod Frames
 pub mod FrameReading
 pub mod Streams
+pub mod Datagrams

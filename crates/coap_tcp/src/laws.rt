@@ -1,6 +1,9 @@
 //! Laws about frames and streams. No program needs to call these functions.
 
 ghost use Rattle.std.specs.Prelude.{◌≡◌, ◌++◌, ◌<◌, ◌≤◌, [], ℕ, List, length};
+ghost use Rattle.coap_message.specs.declared.parts.Parts.{Parts};
+ghost use Rattle.coap_message.specs.Parts.{InRange, IsValid};
+ghost use Rattle.coap_tcp.specs.Datagrams.{frame_of, rest_of};
 ghost use Rattle.coap_tcp.specs.declared.fault.FrameFault.{FrameFault};
 ghost use Rattle.coap_tcp.specs.Frames.{AreBytes, BeginsWith, FrameValue, IsFrame, frame_bytes};
 ghost use Rattle.coap_tcp.specs.FrameReading.{FrameOutcome, frame_at, refuses, takes, waits};
@@ -37,4 +40,9 @@ pub fn however_cut()
     // They are those of all of its bytes.
     ensures whole { (held : List ℕ) (pieces : List (List ℕ)) (frames : List FrameValue) (end : FrameOutcome) → AreRead held pieces frames end → (rest : List ℕ) × IsStream (held ++ joined pieces) frames end rest }
     ensures same { (pieces others : List (List ℕ)) (frames gs : List FrameValue) (end other : FrameOutcome) → joined pieces ≡ joined others → AreRead [] pieces frames end → AreRead [] others gs other → (frames ≡ gs) × (end ≡ other) }
+{}
+
+/// A frame that was written is read again, where its rest isn't too long.
+pub fn written_frame()
+    ensures { (parts : Parts) (more : List ℕ) → IsValid parts → InRange parts → length (rest_of parts) ≤ 4096 → frame_at (frame_bytes (frame_of parts) ++ more) ≡ takes (frame_of parts) }
 {}
