@@ -1,10 +1,10 @@
 -- The length in front of a frame, read and written.
-use Rattle.std.proofs.Common.{◌≡◌, ℕ, ◌+◌, ◌<◌, ◌≤◌, Bool, true, false, cond, ltb, eqb, List, [], ◌∷◌, ◌++◌, length, Option, Some, None, refl, sym, ap, ◌∙◌, arith, inl, inr}
+use Rattle.std.proofs.Common.{◌≡◌, ℕ, ◌+◌, ◌<◌, ◌≤◌, Bool, true, false, cond, ltb, eqb, List, [], ◌∷◌, ◌++◌, length, Option, Some, None, refl, ap, arith, inl, inr}
 use Rattle.std.specs.Int.{w16, w32, from_be_bytes}
-use Rattle.std.proofs.lemmas.Bool.{cases_lt, lt-ltb, le-ltb, cases_Bool, ne_eqb}
+use Rattle.std.proofs.lemmas.Bool.{cases_lt, lt-ltb, le-ltb, ne_eqb}
 use Rattle.coap_message.specs.Message.{nibble, extension}
 use Rattle.coap_message.specs.MessageReading.{one_byte, two_bytes, extended_at}
-use Rattle.coap_message.proofs.Steps.{some, some_is}
+use Rattle.coap_message.proofs.Steps.{some_is}
 use Rattle.coap_message.proofs.Extended.{extended_again}
 use Rattle.coap_tcp.specs.FrameReading.{four_bytes, length_at}
 

@@ -1,17 +1,16 @@
 -- The frame that is read is the one that was spelled, what is decided stays, and little is waited with.
-use Rattle.std.proofs.Common.{◌≡◌, ℕ, zero, suc, ◌+◌, ◌*◌, ◌/◌, ◌%◌, ◌<◌, ◌≤◌, Bool, true, false, cond, ltb, eqb, List, [], ◌∷◌, ◌++◌, length, take, drop, Option, Some, None, refl, sym, ap, subst, ◌∙◌, append_assoc, arith, inl, inr}
+use Rattle.std.proofs.Common.{◌≡◌, ℕ, zero, suc, ◌+◌, ◌*◌, ◌/◌, ◌%◌, ◌<◌, ◌≤◌, Bool, true, false, cond, ltb, List, [], ◌∷◌, ◌++◌, length, take, drop, Option, Some, None, refl, sym, ap, subst, ◌∙◌, append_assoc, arith, inl, inr}
 use Rattle.std.specs.Prelude.{◌⊎◌}
-use Rattle.std.proofs.lemmas.Bool.{cases_lt, ltb-true, ltb-false, lt-ltb, le-ltb, cases_Bool}
+use Rattle.std.proofs.lemmas.Bool.{cases_lt, ltb-false, lt-ltb, le-ltb}
 use Rattle.std.proofs.lemmas.List.{take_at, drop_at, take-append-drop, take-append-le, drop-append-le, length-append, length-take, length-drop}
 use Rattle.coap_message.specs.Message.{nibble, extension}
 use Rattle.coap_message.proofs.Steps.{IsBytes, IsBytes-drop, IsBytes-rest}
 use Rattle.coap_message.proofs.Extended.{extended_takes}
-use Rattle.coap_tcp.specs.declared.fault.FrameFault.{FrameFault}
 use Rattle.coap_tcp.specs.declared.fault.FrameFault.TheVariants.{Token, TooLong, Options}
 use Rattle.coap_tcp.specs.declared.frame.FrameCut as code
 use Rattle.coap_tcp.specs.declared.frame.FrameCut.TheVariants as cuts
 use Rattle.coap_tcp.specs.Frames.{FrameValue, length_nibble, length_extension, frame_bytes, IsRest, IsFrame, BeginsWith}
-use Rattle.coap_tcp.specs.FrameReading.{FrameOutcome, takes, waits, refuses, length_at, is_rest, with_rest, outcome_behind, with_length, frame_at, frame_value, outcome_of, IfFrame}
+use Rattle.coap_tcp.specs.FrameReading.{FrameOutcome, takes, waits, refuses, length_at, is_rest, outcome_behind, with_length, frame_at, frame_value, outcome_of, IfFrame}
 use Rattle.coap_tcp.proofs.Rests.{rest_found, found_rest}
 use Rattle.coap_tcp.proofs.Lengths.{length_more, short_length, length_short, length_again, nibble_below, extension_below}
 

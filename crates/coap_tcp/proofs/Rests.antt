@@ -1,5 +1,5 @@
 -- The test of options and a payload finds exactly those that are spelled so.
-use Rattle.std.proofs.Common.{◌≡◌, ℕ, zero, suc, eqb, true, List, [], ◌∷◌, ◌++◌, length, drop, Option, Some, None, false, refl, sym, ap, subst, ◌∙◌, append_assoc, inl, inr}
+use Rattle.std.proofs.Common.{◌≡◌, ℕ, zero, suc, true, List, [], ◌∷◌, ◌++◌, length, drop, Option, Some, None, false, refl, sym, ap, ◌∙◌, append_assoc, inl, inr}
 use Rattle.std.specs.Prelude.{◌⊎◌}
 use Rattle.std.proofs.lemmas.Bool.{eqb-true, cases_Bool}
 use Rattle.std.proofs.lemmas.List.{drop_at}

@@ -1,4 +1,4 @@
-use Rattle.std.proofs.Common.{◌≡◌, ℕ, ◌+◌, ◌-◌, List, ◌++◌, length, drop, ap, sym, ◌∙◌, arith}
+use Rattle.std.proofs.Common.{◌≡◌, ℕ, ◌+◌, ◌-◌, List, ◌++◌, length, drop, ap, ◌∙◌, arith}
 use Rattle.coap_message.specs.Message.{header}
 use Rattle.coap_message.specs.Writing.{put_at}
 use Rattle.coap_tcp.specs.Frames.{front_bytes, length_extension}
