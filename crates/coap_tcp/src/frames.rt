@@ -28,7 +28,7 @@ impl Model for Frames {
 }
 
 impl Frames {
-    /// Frames of which nothing came yet. `NoMemory` only where the room isn't found.
+    /// Room for a stream of which nothing came yet. `NoMemory` only where the room isn't found.
     pub fn new(alloc: Global) -> Result<Frames, NoMemory>
         ensures { IfOk result (λ frames. frames ≡ []) }
     {

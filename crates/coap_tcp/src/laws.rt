@@ -39,7 +39,7 @@ pub fn one_stream()
 pub fn however_cut()
     // They are those of all of its bytes.
     ensures whole { (held : List ℕ) (pieces : List (List ℕ)) (frames : List FrameValue) (end : FrameOutcome) → AreRead held pieces frames end → (rest : List ℕ) × IsStream (held ++ joined pieces) frames end rest }
-    ensures same { (pieces others : List (List ℕ)) (frames gs : List FrameValue) (end other : FrameOutcome) → joined pieces ≡ joined others → AreRead [] pieces frames end → AreRead [] others gs other → (frames ≡ gs) × (end ≡ other) }
+    ensures same { (pieces parts : List (List ℕ)) (frames others : List FrameValue) (end other : FrameOutcome) → joined pieces ≡ joined parts → AreRead [] pieces frames end → AreRead [] parts others other → (frames ≡ others) × (end ≡ other) }
 {}
 
 /// A frame that was written is read again, where its rest isn't too long.

@@ -3,7 +3,8 @@
 ghost use Rattle.coap_tcp.specs.Frames.{IsFrame};
 ghost use Rattle.coap_tcp.specs.FrameReading.{frame_value};
 
-use crate::{Frame, FrameCut, FrameFault, Frames, as_datagram};
+use crate::{Frame, FrameCut, FrameFault, Frames, as_datagram, frame_into};
+use coap_message::{Kind, OptionPart, Parts};
 use std::alloc::Global;
 
 /// A frame is told by the datagram of its message, and else a word tells what stands there.
@@ -72,7 +73,28 @@ fn are_seen(alloc: Global) -> bool {
     right
 }
 
+/// Whether an answer with a format and a payload is written so.
+fn is_written() -> bool {
+    let mut into = [0; 64];
+    let format = [OptionPart {
+        number: 12,
+        length: 2,
+    }];
+    let parts = Parts {
+        kind: Kind::Ack,
+        code: 0x45,
+        id: 7,
+        token: b"\x4a",
+        options: &format,
+        values: b"\x01\x0f",
+        payload: b"hi",
+    };
+    let len = frame_into(&parts, &mut into);
+    &into[..len] == b"\x61\x45\x4a\xc2\x01\x0f\xffhi".as_slice()
+}
+
 #[test]
 fn fronts_of_streams(rt: HostRuntime) {
     assert!(rt; are_seen(rt.alloc()));
+    assert!(rt; is_written());
 }

@@ -95,7 +95,8 @@ fn put_front(into: &mut [u8], code: u8, token: &[u8], size: usize)
 }
 
 /// Writes the frame of these parts in front of the bytes, and answers how many bytes it has (RFC 8323, section 3.2). Their kind
-/// and their Message ID are in no frame. There is room for the longest header; up to two bytes behind the frame may change.
+/// and their Message ID are in no frame. There is room for a header of 6 bytes with the token and the rest. Up to two bytes
+/// behind the frame may change.
 pub fn frame_into(parts: &Parts, into: &mut [u8]) -> usize
     requires valid { IsValid parts.now }
     requires size { length (rest_of parts.now) < 2 ^ 32 }

@@ -5,4 +5,4 @@ pub returns-clause-whole : goal.returns-clause-whole
 returns-clause-whole c held pieces frames end x = read_stream held pieces frames end x
 
 pub returns-clause-same : goal.returns-clause-same
-returns-clause-same c pieces others frames gs end other same x y = one_reading pieces others frames gs end other same x y
+returns-clause-same c pieces parts frames others end other same x y = one_reading pieces parts frames others end other same x y
