@@ -16,8 +16,6 @@ mod fault;
 mod frame;
 mod frames;
 pub mod laws;
-#[cfg(test)]
-mod rows;
 mod writing;
 
 pub use fault::FrameFault;

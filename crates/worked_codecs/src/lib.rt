@@ -1,4 +1,4 @@
-//! Worked bytes and calls of the crates below the server: messages of CoAP, items of CBOR and hexadecimal text; deadlines; requests,
+//! Worked bytes and calls of the crates below the server: messages of CoAP, and their frames in a stream, items of CBOR and hexadecimal text; deadlines; requests,
 //! replies and sessions of the signal channel, and a client of it; and streams of HTTP, requests and replies of the data channel.
 //!
 //! Each row is put to public calls. The expected values come from the RFCs, their examples and the protocol's documents, and not from
@@ -37,6 +37,8 @@ mod cut_rows;
 mod data_asking;
 #[cfg(test)]
 mod exchange_rows;
+#[cfg(test)]
+mod frame_rows;
 #[cfg(test)]
 mod head_rows;
 #[cfg(test)]

@@ -3,8 +3,8 @@
 ghost use Rattle.coap_tcp.specs.Frames.{IsFrame};
 ghost use Rattle.coap_tcp.specs.FrameReading.{frame_value};
 
-use crate::{Frame, FrameCut, FrameFault, Frames, as_datagram, frame_into};
 use coap_message::{Kind, OptionPart, Parts};
+use coap_tcp::{Frame, FrameCut, FrameFault, Frames, as_datagram, frame_into};
 use std::alloc::Global;
 
 /// A frame is told by the datagram of its message, and else a word tells what stands there.
