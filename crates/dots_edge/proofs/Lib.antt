@@ -3,3 +3,5 @@ pub mod Walks
 pub mod PlaceLemmas
 pub mod FollowLemmas
 pub mod SweepLemmas
+pub mod TurnLemmas
+pub mod SocketLemmas

@@ -14,3 +14,13 @@ went answer.Failed = 0
 abbrev pub is_exhausted : List Answer → Bool
 is_exhausted (answer.Nothing ∷ answers) = true
 is_exhausted _ = false
+
+-- the last call failed
+abbrev pub has_failed : List Answer → Bool
+has_failed (answer.Failed ∷ answers) = true
+has_failed _ = false
+
+-- the last call answered this
+abbrev pub IsLast : Answer → List Answer → Type 0
+IsLast answer [] = ⊥
+IsLast answer (last ∷ answers) = last ≡ answer

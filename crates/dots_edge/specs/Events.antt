@@ -5,8 +5,8 @@ use Rattle.dots_edge.specs.declared.connection.Connection.{Connection}
 use Rattle.dots_edge.specs.declared.answer.Answer.TheVariants as answer
 use Rattle.dots_edge.specs.declared.connection.Piece.{Piece}
 use Rattle.dots_edge.specs.declared.connection.Piece.TheVariants as piece
-use Rattle.dots_edge.specs.declared.sockets.Received.{Received}
-use Rattle.dots_edge.specs.declared.sockets.Received.TheVariants as received
+use Rattle.dots_edge.specs.declared.signal.Received.{Received}
+use Rattle.dots_edge.specs.declared.signal.Received.TheVariants as received
 
 -- no more bytes than the room has
 abbrev pub IsPiece : Piece → ℕ → Type 0

@@ -50,3 +50,8 @@ AreSound places = (place : ℕ) → place < 128 → sound_at (get_or places plac
 -- nothing can be done at the place now, or its socket was called
 abbrev pub WasTried : Option Connection → Option Connection → Type 0
 WasTried old new = (idle_at new ≡ true) ⊎ (calls_at old < calls_at new)
+
+-- The socket of the connection had nothing to read at the last read, or took nothing of what is kept at the last write.
+abbrev pub is_spent : Option Connection → Bool
+is_spent None = true
+is_spent (Some connection) = if is_kept connection then is_exhausted connection.taken.answers else is_exhausted connection.came.answers

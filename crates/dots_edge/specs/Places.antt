@@ -1,5 +1,5 @@
 -- The places of the connections, and which are open for the server.
-use Rattle.std.specs.Prelude.{◌≡◌, ◌≢◌, ℕ, ◌+◌, ◌<◌, ◌≤◌, ◌⊎◌, ◌&&◌, Bool, true, false, not, List, ◌∷◌, ◌++◌, take, Option, Some, None, is_some, IfSome, nat_lt, get_or, if◌then◌else◌, ⊤}
+use Rattle.std.specs.Prelude.{◌≡◌, ◌≢◌, ℕ, ◌<◌, ◌≤◌, ◌⊎◌, ◌&&◌, Bool, true, false, not, List, ◌++◌, Option, Some, None, is_some, IfSome, nat_lt, get_or, if◌then◌else◌, ⊤}
 use Rattle.std.specs.Duration.{as_nanos}
 use Rattle.dots_host.specs.declared.out.Out.{Out}
 use Rattle.dots_host.specs.declared.out.Out.TheVariants as out
@@ -8,11 +8,10 @@ use Rattle.dots_host.specs.declared.out.Sent.TheVariants as sent
 use Rattle.dots_host.specs.declared.event.What.{What}
 use Rattle.dots_host.specs.declared.event.What.TheVariants as what
 use Rattle.std.specs.declared.time.Duration.{Duration}
-use Rattle.dots_edge.specs.declared.answer.Answer.TheVariants as answer
 use Rattle.dots_edge.specs.declared.connection.Connection.{Connection}
 use Rattle.dots_edge.specs.Passing.{is_stale}
 use Rattle.dots_edge.specs.Sends.{TookOrKept, IsLost}
-use Rattle.dots_edge.specs.Idle.{is_kept, idle_at, WasTried}
+use Rattle.dots_edge.specs.Idle.{is_kept, idle_at, is_spent, WasTried}
 use Rattle.dots_edge.specs.declared.connections.Connections.{Connections}
 
 -- the connection at the place, where one is
@@ -69,6 +68,10 @@ IsForOneMore all place = (is_open all place ≡ false) × (is_some (at_place all
 abbrev pub AreOpen : Connections → Type 0
 AreOpen all = (place : ℕ) → place < 128 → is_open all place ≡ true
 
+-- no connection is open for the server
+abbrev pub NoneOpen : Connections → Type 0
+NoneOpen all = (conn : ℕ) → is_open all conn ≡ false
+
 -- at all other places everything is as before
 abbrev pub SameBeside : Connections → ℕ → Connections → Type 0
 SameBeside old place new = (other : ℕ) → other ≢ place → at_place new other ≡ at_place old other
@@ -97,7 +100,8 @@ ClosesAt old new conn = (is_open old conn ≡ true) × (is_open new conn ≡ fal
 -- What an event leaves of the connections that are open for the server: one that is opened wasn't, one that is closed was, bytes come on one that is,
 -- and of all others it is as before.
 abbrev pub Follows : Option What → Connections → Connections → Type 0
-Follows (Some (what.Opened conn from)) old new = (is_open old conn ≡ false) × (is_open new conn ≡ true) × OthersStay old conn new
+Follows (Some (what.Opened conn from)) old new =
+    (is_open old conn ≡ false) × (is_open new conn ≡ true) × OthersStay old conn new × (conn < 128)
 Follows (Some (what.Closed conn)) old new = ClosesAt old new conn
 Follows (Some (what.Piece conn len)) old new = (is_open old conn ≡ true) × SameOpen old new
 Follows _ old new = SameOpen old new
@@ -157,6 +161,10 @@ AreTried old new = (place : ℕ) → place < 128 → WasTried (at_place old plac
 -- nothing can be done of any connection until a wait tells of it
 abbrev pub AreIdle : Connections → Type 0
 AreIdle all = (place : ℕ) → place < 128 → idle_at (at_place all place) ≡ true
+
+-- the sockets of all connections had nothing to read when they were read last, or took nothing of what is kept
+abbrev pub AreSpent : Connections → Type 0
+AreSpent all = (place : ℕ) → place < 128 → is_spent (at_place all place) ≡ true
 
 -- the socket there was read once, and gave these bytes
 abbrev pub CameAt : Option Connection → List ℕ → Option Connection → Type 0

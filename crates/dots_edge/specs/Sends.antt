@@ -1,7 +1,6 @@
 -- What becomes of what is sent on a connection.
 use Rattle.std.specs.Prelude.{◌≡◌, ℕ, ◌+◌, ◌≤◌, ◌⊎◌, true, false, List, [], ◌∷◌, ◌++◌, length}
 use Rattle.std.specs.declared.time.Duration.{Duration}
-use Rattle.dots_edge.specs.declared.answer.Answer.{Answer}
 use Rattle.dots_edge.specs.declared.answer.Answer.TheVariants as answer
 use Rattle.dots_edge.specs.declared.connection.Connection.{Connection}
 use Rattle.dots_edge.specs.declared.connection.Piece.{Piece}

@@ -35,7 +35,7 @@ pub struct Connections {
 }
 
 impl Connections {
-    ghost use Rattle.dots_edge.specs.Places.{at_place, is_open, closing_since, AreTaken, MovedFirst, IsForOneMore, AreOpen, NoneCloses, SameBeside, SameOpen, OthersStay, ClosesAt, Follows, marked, kept_at, stale_at, retried, swept, ends_at, AreSwept, NoneEnds, AreTried, AreIdle, CameAt, OnPiece, IsSentAt, closed_at};
+    ghost use Rattle.dots_edge.specs.Places.{at_place, is_open, closing_since, AreTaken, MovedFirst, IsForOneMore, AreOpen, NoneCloses, SameBeside, SameOpen, OthersStay, ClosesAt, Follows, marked, kept_at, stale_at, retried, swept, ends_at, AreSwept, NoneEnds, AreTried, AreIdle, AreSpent, CameAt, OnPiece, IsSentAt, closed_at};
 
     /// Places for connections, none of which is open.
     #[tactic(auto, using(crate::proofs::PlaceLemmas::none_more))]
@@ -146,6 +146,7 @@ impl Connections {
     pub fn is_drained(&self) -> bool
         ensures looks { result ≡ (self.now.looks == 0) }
         ensures idle { result ≡ true → AreIdle self.now }
+        ensures spent { result ≡ true → AreSpent self.now }
     {
         self.looks == 0
     }

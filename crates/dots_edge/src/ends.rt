@@ -1,75 +1,38 @@
 //! What comes to the sockets, in turn.
 
-ghost use Rattle.std.specs.Prelude.{◌≡◌, length, true, false, None, Some, IfOk, OnErr, IfSome};
+ghost use Rattle.std.specs.Prelude.{◌≡◌, ◌+◌, ◌≤◌, ◌⊎◌, length, take, false, true, None, Some, IfOk, OnOk, OnErr, IfSome};
 ghost use Rattle.dots_host.specs.Acts.{IsWithin, OnFailed};
 ghost use Rattle.dots_host.specs.declared.TheConstants.{MAX_EVENT_BYTES};
+ghost use Rattle.mio.specs.Events.{items};
+ghost use Rattle.dots_edge.specs.declared.waiting.Accepting.TheVariants as accepting;
 ghost use Rattle.dots_edge.specs.Restarts.{OnRestart};
-ghost use Rattle.dots_edge.specs.Drained.{IsDrained, tried_again};
-ghost use Rattle.dots_edge.specs.Places.{OnOpened, IsForOneMore, OpensAt, SameOpen, Follows, IsGiven};
+ghost use Rattle.dots_edge.specs.Answers.{has_failed};
+ghost use Rattle.dots_edge.specs.Datagrams.{AreEmpty, GaveLast, OnDatagram, has_failed_at, signal_at, last_asked, times_asked};
+ghost use Rattle.dots_edge.specs.Accepts.{AreQuiet, times_tried};
+ghost use Rattle.dots_edge.specs.Places.{OnOpened, OnPiece, IsForOneMore, OpensAt, AreOpen, SameOpen, Follows, IsGiven, CameAt, AreTried, at_place};
+ghost use Rattle.dots_edge.specs.Noted.{retried, IsNoted, AreMarked};
 
+use crate::answer::Answer;
 use crate::connections::Connections;
+use crate::listener::Accepted;
 use crate::passing::Ticks;
 use crate::peers::Peers;
-use crate::sockets::{Accepted, HTTP, Received, SIGNAL, Sockets};
-use dots_host::{MAX_EVENT_BYTES, NoMemory, Out, Sent, What};
-use host_file::HostLine;
+use crate::rooms::Rooms;
+use crate::signal::Received;
+use crate::socket_log::SocketLog;
+use crate::sockets::Sockets;
+use crate::waiting::{Accepting, Waiting, note};
+use dots_host::{MAX_EVENT_BYTES, Out, Sent, What};
 use mio::Events;
-use std::alloc::Global;
 use std::io;
 use std::io::{Error, ErrorKind};
 use std::time::{Clock, Duration};
-
-/// The room for a datagram: one byte more than an event has, so that a longer one is seen.
-const ROOM: usize = 4097;
-
-/// How many sockets a wait tells of at most.
-const TOLD_AT_ONCE: usize = 64;
 
 /// After so many events the sockets are looked at, also where more is left to hand in.
 const EVENTS_BEFORE_A_LOOK: u32 = 64;
 
 /// How many datagrams that are too long are passed in one go, and how many connections that are gone.
 const PASSED_AT_ONCE: u32 = 64;
-
-/// Whether a connection may wait to be accepted.
-#[derive(Clone, Copy)]
-enum Accepting {
-    No,
-    Yes,
-    /// One may, but none can be accepted now, as for want of descriptors. After the next tick it is tried again.
-    Stuck,
-}
-
-/// What may wait at the sockets. Once a wait has told of a socket, no other does before it was found empty.
-#[derive(Clone, Copy)]
-struct Waiting {
-    datagrams: bool,
-    connections: Accepting,
-}
-
-/// What of a host takes memory.
-#[derive(Drop)]
-pub struct Rooms {
-    connections: Connections,
-    peers: Peers,
-    events: Events,
-    datagram: Vec<u8>,
-}
-
-impl Rooms {
-    pub fn new(alloc: Global, lines: &[HostLine<'_>]) -> Result<Rooms, NoMemory> {
-        let datagram = vec![in alloc; 0u8; ROOM]?;
-        let connections = Connections::new(alloc)?;
-        let events = Events::with_capacity(alloc, TOLD_AT_ONCE)?;
-        let peers = Peers::new(alloc, lines)?;
-        Ok(Rooms {
-            connections,
-            peers,
-            events,
-            datagram,
-        })
-    }
-}
 
 /// The sockets, the connections and the peers, and whose turn it is.
 #[derive(Drop)]
@@ -88,10 +51,20 @@ pub struct Ends {
     time: Duration,
     /// How many events were handed in since the sockets were looked at.
     since_look: u32,
+    /// What the clock answered.
+    clock: SocketLog,
+    // That no datagram waits, or no connection, is known from the sockets.
+    ghost empty: { waiting.datagrams ≡ false → AreEmpty sockets.signals.items },
+    ghost quiet: { waiting.connections ≡ accepting.No → AreQuiet sockets.listeners.items },
 }
 
 impl Ends {
-    pub fn new(sockets: Sockets, rooms: Rooms) -> Ends {
+    ghost use Rattle.dots_edge.specs.Drained.{IsDrained, HasBroken, HasTired};
+    ghost use Rattle.dots_edge.specs.Handed.{IsHanded};
+
+    pub fn new(sockets: Sockets, rooms: Rooms) -> Ends
+        ensures { result.connections ≡ rooms.connections }
+    {
         let Rooms {
             connections,
             peers,
@@ -112,6 +85,7 @@ impl Ends {
             ticks: Ticks::new(),
             time: Duration::ZERO,
             since_look: 0,
+            clock: SocketLog::new(),
         }
     }
 
@@ -127,9 +101,12 @@ impl Ends {
         ensures restart { IfOk result (λ what. OnRestart what ⊥) }
         // A number is opened that wasn't open for the server, one that was is closed, and none else begins or ends to be.
         ensures follows { IfOk result (λ what. Follows (Some what) self.old.connections self.new.connections) }
+        ensures err { OnErr result (SameOpen self.old.connections self.new.connections) }
+        // It fails only where a call of the system failed.
+        ensures broken { OnErr result (HasBroken self.new ⊎ HasTired self.old self.new) }
     {
         for _ in 0..u64::MAX {
-            self.time = rt.monotonic()?;
+            self.time = self.read_clock(rt)?;
             if let Some(what) = self.next_now(into)? {
                 return Ok(what);
             }
@@ -140,6 +117,24 @@ impl Ends {
         Err(Error::from(ErrorKind::TimedOut))
     }
 
+    /// The time now, by the clock that doesn't fall.
+    fn read_clock<R: Clock>(&mut self, rt: &R) -> io::Result<Duration>
+        ensures read { length self.new.clock.answers ≡ length self.old.clock.answers + 1 }
+        ensures failed { OnErr result (has_failed self.new.clock.answers ≡ true) }
+        ensures connections { self.new.connections ≡ self.old.connections }
+    {
+        match rt.monotonic() {
+            Ok(time) => {
+                self.clock.note(Answer::Went(0), &[]);
+                Ok(time)
+            }
+            Err(error) => {
+                self.clock.note(Answer::Failed, &[]);
+                Err(error)
+            }
+        }
+    }
+
     /// The next event that is there: a tick, the end of a stale connection, a datagram, or what came to a connection.
     fn next_now(&mut self, into: &mut [u8]) -> io::Result<Option<What>>
         requires { length into.old ≡ MAX_EVENT_BYTES }
@@ -148,6 +143,8 @@ impl Ends {
         ensures restart { IfOk result (λ found. IfSome found (λ what. OnRestart what ⊥)) }
         ensures follows { IfOk result (λ found. Follows found self.old.connections self.new.connections) }
         ensures err { OnErr result (SameOpen self.old.connections self.new.connections) }
+        ensures broken { OnErr result (HasBroken self.new) }
+        ensures clock { self.new.clock ≡ self.old.clock }
     {
         if self.ticks.is_due(self.time) {
             self.tick();
@@ -156,11 +153,8 @@ impl Ends {
         if let Some(conn) = self.connections.next_stale(self.time) {
             return Ok(Some(What::Closed { conn }));
         }
-        if self.since_look >= EVENTS_BEFORE_A_LOOK {
-            self.look(Duration::ZERO)?;
-            if let Some(what) = self.next_of_connections(into) {
-                return Ok(Some(what));
-            }
+        if let Some(what) = self.next_after_a_look(into)? {
+            return Ok(Some(what));
         }
         self.since_look = self.since_look.saturating_add(1);
         if let Some(what) = self.next_datagram(into)? {
@@ -169,16 +163,36 @@ impl Ends {
         Ok(self.next_of_connections(into))
     }
 
+    /// After many events looks at the sockets, and what came to the connections has a turn.
+    fn next_after_a_look(&mut self, into: &mut [u8]) -> io::Result<Option<What>>
+        requires { length into.old ≡ MAX_EVENT_BYTES }
+        ensures within { IfOk result (λ found. IfSome found (λ what. IsWithin what MAX_EVENT_BYTES)) }
+        ensures event { IfOk result (λ found. IfSome found (λ what. OnFailed what ⊥)) }
+        ensures restart { IfOk result (λ found. IfSome found (λ what. OnRestart what ⊥)) }
+        ensures follows { IfOk result (λ found. Follows found self.old.connections self.new.connections) }
+        ensures err { OnErr result (SameOpen self.old.connections self.new.connections) }
+        ensures waited { 64 ≤ self.old.since_look →
+            length self.new.sockets.waits.answers ≡ length self.old.sockets.waits.answers + 1 }
+        ensures broken { OnErr result (HasBroken self.new) }
+        ensures clock { self.new.clock ≡ self.old.clock }
+    {
+        if self.since_look < EVENTS_BEFORE_A_LOOK {
+            return Ok(None);
+        }
+        self.look(Duration::ZERO)?;
+        Ok(self.next_of_connections(into))
+    }
+
     /// From now on stale connections are looked for, and accepting is tried again.
     fn tick(&mut self)
-        ensures kept { self.new ≡ record self.old { connections = self.new.connections; waiting = self.new.waiting } }
         ensures swept { self.new.connections ≡ record self.old.connections { swept = 0 } }
-        ensures accepting { self.new.waiting ≡ tried_again self.old.waiting }
+        ensures accepting { self.new.waiting ≡ retried self.old.waiting }
+        ensures sockets { self.new.sockets ≡ self.old.sockets }
+        ensures kept { (self.new.peers ≡ self.old.peers) × (self.new.ticks ≡ self.old.ticks) × (self.new.time ≡ self.old.time)
+            × (self.new.since_look ≡ self.old.since_look) × (self.new.opens_first ≡ self.old.opens_first) × (self.new.clock ≡ self.old.clock) }
     {
         self.connections.sweep();
-        if let Accepting::Stuck = self.waiting.connections {
-            self.waiting.connections = Accepting::Yes;
-        }
+        self.waiting.retry();
     }
 
     /// Whether every source was found empty.
@@ -192,7 +206,8 @@ impl Ends {
 
     /// Whether a connection may wait, and there is a place for it.
     fn may_accept(&self) -> bool
-        ensures { result ≡ true → self.now.waiting.connections ≡ Accepting.Yes }
+        ensures yes { result ≡ true → self.now.waiting.connections ≡ Accepting.Yes }
+        ensures no { result ≡ false → self.now.waiting.connections ≡ Accepting.Yes → AreOpen self.now.connections }
     {
         match self.waiting.connections {
             Accepting::Yes => self.connections.place_for_one().is_some(),
@@ -204,7 +219,10 @@ impl Ends {
     /// something is there, since no wait tells of it again.
     fn rest(&mut self) -> io::Result<()>
         requires { IsDrained self.old }
-        ensures { SameOpen self.old.connections self.new.connections }
+        ensures open { SameOpen self.old.connections self.new.connections }
+        ensures waited { length self.new.sockets.waits.answers ≡ length self.old.sockets.waits.answers + 1 }
+        ensures broken { OnErr result (HasBroken self.new) }
+        ensures clock { self.new.clock ≡ self.old.clock }
     {
         let left = self.ticks.left(self.time);
         self.look(left)
@@ -212,7 +230,14 @@ impl Ends {
 
     /// Looks at the sockets, and waits until something comes or the time is over.
     fn look(&mut self, limit: Duration) -> io::Result<()>
-        ensures { SameOpen self.old.connections self.new.connections }
+        ensures open { SameOpen self.old.connections self.new.connections }
+        // The system is asked once, and what it tells is taken in.
+        ensures waited { length self.new.sockets.waits.answers ≡ length self.old.sockets.waits.answers + 1 }
+        ensures waiting { OnOk result (IsNoted (items self.new.events) self.old.waiting self.new.waiting) }
+        ensures marked { OnOk result (AreMarked (items self.new.events) self.old.connections self.new.connections) }
+        ensures looked { OnOk result (self.new.since_look ≡ 0) }
+        ensures broken { OnErr result (HasBroken self.new) }
+        ensures clock { self.new.clock ≡ self.old.clock }
     {
         self.sockets.wait(&mut self.events, limit)?;
         self.since_look = 0;
@@ -228,6 +253,14 @@ impl Ends {
         ensures restart { IfOk result (λ found. IfSome found (λ what. OnRestart what ⊥)) }
         ensures same { self.new.connections ≡ self.old.connections }
         ensures none { IfOk result (λ found. Follows found self.old.connections self.new.connections) }
+        // A datagram is what a socket gave last.
+        ensures came { IfOk result (λ found. OnDatagram found (λ from len.
+            GaveLast (signal_at self.new.sockets (last_asked self.new.sockets)) (take len into.new))) }
+        // There is none only where each socket was found empty, or after so many that were too long or none.
+        ensures empty { IfOk result (λ found. found ≡ None →
+            (self.new.waiting.datagrams ≡ false) ⊎ (times_asked self.old.sockets + 64 ≤ times_asked self.new.sockets)) }
+        ensures broken { OnErr result (HasBroken self.new) }
+        ensures clock { self.new.clock ≡ self.old.clock }
     {
         if !self.waiting.datagrams {
             return Ok(None);
@@ -257,6 +290,9 @@ impl Ends {
         ensures event { IfSome result (λ what. OnFailed what ⊥) }
         ensures restart { IfSome result (λ what. OnRestart what ⊥) }
         ensures follows { Follows result self.old.connections self.new.connections }
+        ensures none { result ≡ None → AreTried self.old.connections self.new.connections }
+        ensures waits { self.new.sockets.waits ≡ self.old.sockets.waits }
+        ensures clock { self.new.clock ≡ self.old.clock }
     {
         self.opens_first = !self.opens_first;
         if self.opens_first {
@@ -278,6 +314,11 @@ impl Ends {
         ensures event { IfSome result (λ what. OnFailed what ⊥) }
         ensures restart { IfSome result (λ what. OnRestart what ⊥) }
         ensures follows { Follows result self.old.connections self.new.connections }
+        ensures came { OnPiece result (λ conn len.
+            CameAt (at_place self.old.connections conn) (take len into.new) (at_place self.new.connections conn)) }
+        ensures none { result ≡ None → AreTried self.old.connections self.new.connections }
+        ensures sockets { self.new.sockets ≡ self.old.sockets }
+        ensures clock { self.new.clock ≡ self.old.clock }
     {
         self.connections
             .next_piece(into, self.time, self.sockets.registry())
@@ -289,6 +330,11 @@ impl Ends {
         ensures place { OnOpened result (IsForOneMore self.old.connections) }
         ensures opened { OnOpened result (OpensAt self.old.connections self.new.connections) }
         ensures none { result ≡ None → self.new.connections ≡ self.old.connections }
+        // There is none only where none can be accepted, or after so many that were gone.
+        ensures cause { result ≡ None → self.new.waiting.connections ≡ Accepting.Yes →
+            AreOpen self.old.connections ⊎ (times_tried self.old.sockets + 64 ≤ times_tried self.new.sockets) }
+        ensures waits { self.new.sockets.waits ≡ self.old.sockets.waits }
+        ensures clock { self.new.clock ≡ self.old.clock }
         ensures within { IfSome result (λ what. IsWithin what MAX_EVENT_BYTES) }
         ensures event { IfSome result (λ what. OnFailed what ⊥) }
         ensures restart { IfSome result (λ what. OnRestart what ⊥) }
@@ -323,7 +369,8 @@ impl Ends {
     /// Sends.
     pub fn send(&mut self, out: &Out) -> Sent
         // Only what is open for the server is sent on or closed, and nothing else begins or ends to be open.
-        ensures { IsGiven out.now result self.old.connections self.new.connections }
+        ensures given { IsGiven out.now result self.old.connections self.new.connections }
+        ensures handed { IsHanded out.now result self.old self.new }
     {
         match out {
             Out::To { peer, bytes } => match self.peers.way_for(*peer, *bytes) {
@@ -335,22 +382,6 @@ impl Ends {
                 self.connections.send(*conn, *bytes, self.time, registry)
             }
             Out::Close { conn } => self.connections.close(*conn),
-        }
-    }
-}
-
-/// Takes in what a wait told.
-fn note(events: &Events, waiting: &mut Waiting, connections: &mut Connections)
-    ensures { SameOpen connections.old connections.new }
-{
-    for event in events {
-        let place = event.token().0;
-        if place < SIGNAL {
-            connections.mark(place);
-        } else if place < HTTP {
-            waiting.datagrams = true;
-        } else {
-            waiting.connections = Accepting::Yes;
         }
     }
 }

@@ -4,6 +4,8 @@ ghost use Rattle.dots_host.specs.declared.act.Act.TheVariants as act;
 ghost use Rattle.dots_host.specs.Acts.{IsWithin, OnFailed, OnEvent, Adds, event_of, owned_of, is_done, taken, given, wire_acts};
 ghost use Rattle.dots_host.specs.declared.TheConstants.{MAX_EVENT_BYTES};
 ghost use Rattle.dots_edge.specs.Restarts.{OnRestart};
+ghost use Rattle.dots_edge.specs.Opened.{FollowsCalls, IsGivenAfter};
+ghost use Rattle.dots_edge.specs.Told.{AreFresh, FollowsOf, IsGivenOf};
 ghost use Rattle.dots_edge.specs.Edge.{acts_told, with_call, one_fewer, NeverRestarts, KeepsWire, KeepsDisk, IsAsSaid};
 ghost use Rattle.plain_text.specs.Lines.{lines_of};
 ghost use Rattle.host_file.specs.HostLine.{LineValue, line_value};
@@ -15,8 +17,9 @@ ghost use Rattle.std.proofs.Common.{ap, refl};
 ghost use Rattle.dots_edge.specs.EdgeLaws.{keeps_wire_same, keeps_wire_then, keeps_disk_same, keeps_disk_then};
 ghost use Rattle.dots_edge.specs.EdgeLaws.{never_restarts_same, never_restarts_then, keeps_acts_told, disk_restarts_none};
 
-use crate::ends::{Ends, Rooms};
+use crate::ends::Ends;
 use crate::journal::{Journal, room_of};
+use crate::rooms::Rooms;
 use crate::seconds::Seconds;
 use crate::sockets::{SocketRoom, Sockets};
 use dots_disk::{Call, CallLog, Disk, Host};
@@ -66,6 +69,11 @@ impl<R> Model for FileSocketHost<R> {
 
     ghost Value = { Edge };
 
+    ghost use Rattle.dots_edge.specs.Told.{AreOpenAsTold};
+
+    // The connections are open that its calls opened and didn't close.
+    ghost invariant = { λ host. AreOpenAsTold host.log.acts host.ends };
+
     ghost view = { λ host. record { opened = is_some host.ends; journaled = is_some host.journal; lost = is_lost host.journal; left = host.left; reserve = host.reserve; begun = host.seconds.begun; last = host.seconds.last; strayed = host.seconds.strayed; wire = host.wire_faults; disk = host.disk_faults; calls = host.log.acts } };
 }
 
@@ -90,6 +98,7 @@ impl<R: Files<File = File> + Net + Clock + Drop> FileSocketHost<R> {
 
     /// The host of what was opened.
     fn of(rt: R, opened: Opened) -> FileSocketHost<R>
+        requires { AreFresh opened.ends }
         ensures opened { result.opened ≡ is_some opened.ends }
         ensures journaled { result.journaled ≡ is_some opened.journal }
         ensures left { (result.left ≡ opened.left) × (result.reserve ≡ opened.reserve) }
@@ -150,6 +159,7 @@ fn open_said<R: Files<File = File> + Net>(
         × (opened.left ≡ events_in values) × (opened.reserve ≡ reserve_in values) × (is_some opened.journal ≡ has_journal values)) }
     ensures shut { IfOk result (λ opened. is_some opened.ends ≡ false → is_some opened.journal ≡ false) }
     ensures lost { IfOk result (λ opened. is_lost opened.journal ≡ false) }
+    ensures fresh { IfOk result (λ opened. AreFresh opened.ends) }
 {
     match read_host_file(alloc, text) {
         Ok(lines) => open_lines(alloc, rt, lines.as_slice()),
@@ -174,6 +184,7 @@ fn open_lines<R: Files<File = File> + Net>(
     ensures left { IfOk result (λ opened. opened.left ≡ events_in (map line_value lines.now)) }
     ensures reserve { IfOk result (λ opened. opened.reserve ≡ reserve_in (map line_value lines.now)) }
     ensures lost { IfOk result (λ opened. is_lost opened.journal ≡ false) }
+    ensures fresh { IfOk result (λ opened. AreFresh opened.ends) }
 {
     let path = path_in(alloc, lines)?;
     let sockets = SocketRoom::new(alloc)?;
@@ -262,6 +273,7 @@ fn next_event<R: Clock>(
     ensures ends { is_some ends.old ≡ true → left.old ≡ Some 0 → result ≡ Some What.End }
     ensures counted { IfSome result (λ _. left.new ≡ one_fewer left.old) }
     ensures failed { result ≡ None → left.new ≡ left.old }
+    ensures follows { FollowsOf result ends.old ends.new }
 {
     let Some(ends) = ends else {
         return None;
@@ -282,6 +294,7 @@ fn next_event<R: Clock>(
 fn send_by(ends: &mut Option<Ends>, out: &Out) -> Sent
     ensures closed { is_some ends.old ≡ false → result ≡ Sent.Lost }
     ensures opened { is_some ends.new ≡ is_some ends.old }
+    ensures given { IsGivenOf out.now result ends.old ends.new }
 {
     match ends {
         Some(ends) => ends.send(out),
@@ -419,6 +432,8 @@ impl<R: Files<File = File> + Net + Clock + Drop> Wire for FileSocketHost<R> {
         // The call is added to its log, with the event, its bytes and its time. It never hands in a restart.
         ensures call { self.new.calls ≡ self.old.calls ++ act.Took (event_of result.what into.new) result.at ∷ [] }
         ensures restart { OnRestart result.what ⊥ }
+        // A connection is opened under a number that isn't open by the calls so far, and bytes come, and an end, on one that is.
+        ensures follows { FollowsCalls result.what self.old.calls }
         // A host that isn't open fails, and one to which no event is to come any more ends.
         ensures shut { self.old.opened ≡ false → result.what ≡ What.Failed }
         ensures ends { self.old.opened ≡ true → self.old.left ≡ Some 0 → result.what ≡ What.End }
@@ -468,6 +483,8 @@ impl<R: Files<File = File> + Net + Clock + Drop> Wire for FileSocketHost<R> {
         ensures beside { KeepsDisk self.old self.new }
         ensures leads { NeverRestarts self.old self.new }
 
+        // It is sent only on a connection that is open by the calls so far, and one is closed exactly where it is open.
+        ensures given { IsGivenAfter out.now result self.old.calls }
         // A host that isn't open loses each send.
         ensures closed { self.old.opened ≡ false → result ≡ Sent.Lost }
         // The send is added to its log, done or lost, and nothing else changes.

@@ -32,13 +32,17 @@ mod file_socket_host;
 mod journal;
 mod journal_file;
 mod journal_reader;
+mod listener;
 mod passing;
 mod peers;
 mod place;
 mod rest;
+mod rooms;
 mod seconds;
+mod signal;
 mod socket_log;
 mod sockets;
+mod waiting;
 
 pub use file_socket_host::FileSocketHost;
 pub use host_file::{

@@ -1,10 +1,18 @@
 //! The sockets of a host file, and the wait for them and the connections.
 
-ghost use Rattle.std.specs.Prelude.{◌≡◌, ◌<◌, length, IfOk};
+ghost use Rattle.std.specs.Prelude.{◌≡◌, ◌+◌, ◌<◌, ◌≤◌, ◌==◌, true, if◌then◌else◌, length, position, vec_len, IfOk, OnErr, nat_lt};
+ghost use Rattle.dots_edge.specs.Turns.{whose_turn};
 ghost use Rattle.dots_edge.specs.Events.{IsReceived};
+ghost use Rattle.dots_edge.specs.Answers.{has_failed};
+ghost use Rattle.dots_edge.specs.Accepts.{HasAccepted, HasGivenAt, IsAdmitted, IsAny, SameListenersBeside, times_tried};
+ghost use Rattle.dots_edge.specs.Datagrams.{HasAsked, HasFailed, HasReceivedAt, HasFailedAt, IsSomething, IsSentFrom, SameSignalsBeside, signal_at, times_asked, place_of, is_for};
 
-use crate::address::{mapped, socket_address};
+use crate::address::socket_address;
+use crate::answer::Answer;
 use crate::connections::MAX_CONNECTIONS;
+use crate::listener::{Accepted, Listener};
+use crate::signal::{Received, Signal};
+use crate::socket_log::SocketLog;
 use dots_host::{NoMemory, Sent};
 use host_file::{Endpoint, HostLine};
 use mio::net::{TcpListener, TcpStream, UdpSocket};
@@ -25,47 +33,11 @@ pub const SIGNAL: usize = MAX_CONNECTIONS;
 /// And from here on about those for connections.
 pub const HTTP: usize = SIGNAL + MAX_SOCKETS;
 
-/// What a receive gives.
-#[derive(Clone, Copy)]
-pub enum Received {
-    /// A datagram of so many bytes, at the front of the room; of a longer one as many as the room has.
-    Datagram {
-        len: usize,
-        from: SocketAddr,
-        /// The place of the socket on which it came.
-        via: usize,
-    },
-    /// No datagram waits at any socket.
-    Nothing,
-    /// There was none this time.
-    Again,
-}
-
-/// What an accept gives.
-#[derive(Drop)]
-pub enum Accepted {
-    Stream { stream: TcpStream, from: SocketAddr },
-    /// No connection waits at any socket.
-    Nothing,
-    /// The one that waited is gone.
-    Again,
-    /// One waits that can't be accepted now, as for want of descriptors.
-    Stuck,
-}
-
-/// A socket for datagrams.
-#[derive(Drop)]
-pub struct Signal {
-    socket: UdpSocket,
-    /// Whether it is one of IPv6, which sends to IPv4 by mapped addresses.
-    is_v6: bool,
-}
-
 /// What of the sockets takes memory.
 #[derive(Drop)]
 pub struct SocketRoom {
     signals: Vec<Signal>,
-    listeners: Vec<TcpListener>,
+    listeners: Vec<Listener>,
 }
 
 impl SocketRoom {
@@ -83,9 +55,11 @@ pub struct Sockets {
     signals: Vec<Signal>,
     /// The socket at which a datagram is received next.
     signal_turn: usize,
-    listeners: Vec<TcpListener>,
+    listeners: Vec<Listener>,
     /// The socket at which a connection is accepted next.
     listener_turn: usize,
+    /// What waits answered.
+    waits: SocketLog,
 }
 
 impl Sockets {
@@ -108,6 +82,7 @@ impl Sockets {
             signal_turn: 0,
             listeners,
             listener_turn: 0,
+            waits: SocketLog::new(),
         }
     }
 
@@ -139,8 +114,7 @@ impl Sockets {
         let mut socket = UdpSocket::bind(net, at)?;
         let registry = self.poll.registry();
         registry.register(&mut socket, token, Interest::READABLE)?;
-        let is_v6 = at.is_ipv6();
-        match self.signals.push(Signal { socket, is_v6 }) {
+        match self.signals.push(Signal::new(socket, at.is_ipv6())) {
             Ok(()) => Ok(()),
             Err(_) => Err(Error::from(ErrorKind::OutOfMemory)),
         }
@@ -148,10 +122,10 @@ impl Sockets {
 
     fn bind_http(&mut self, net: &impl Net, at: Endpoint) -> io::Result<()> {
         let token = token_of(HTTP, self.listeners.len())?;
-        let mut listener = TcpListener::bind(net, socket_address(at))?;
+        let mut socket = TcpListener::bind(net, socket_address(at))?;
         let registry = self.poll.registry();
-        registry.register(&mut listener, token, Interest::READABLE)?;
-        match self.listeners.push(listener) {
+        registry.register(&mut socket, token, Interest::READABLE)?;
+        match self.listeners.push(Listener::new(socket)) {
             Ok(()) => Ok(()),
             Err(_) => Err(Error::from(ErrorKind::OutOfMemory)),
         }
@@ -160,7 +134,7 @@ impl Sockets {
     /// The port of the first socket for datagrams, or 0.
     pub fn signal_port(&self) -> u16 {
         match self.signals.first() {
-            Some(signal) => port_of(signal.socket.local_addr()),
+            Some(signal) => port_of(signal.socket().local_addr()),
             None => 0,
         }
     }
@@ -168,7 +142,7 @@ impl Sockets {
     /// The port of the first socket for connections, or 0.
     pub fn http_port(&self) -> u16 {
         match self.listeners.first() {
-            Some(listener) => port_of(listener.local_addr()),
+            Some(listener) => port_of(listener.socket().local_addr()),
             None => 0,
         }
     }
@@ -179,13 +153,32 @@ impl Sockets {
     }
 
     /// Waits until something comes or the time is over.
-    pub fn wait(&mut self, events: &mut Events, limit: Duration) -> io::Result<()> {
-        self.poll.poll(events, Some(limit))
+    pub fn wait(&mut self, events: &mut Events, limit: Duration) -> io::Result<()>
+        // The system is asked once, and the sockets stay as they are.
+        ensures waited { length self.new.waits.answers ≡ length self.old.waits.answers + 1 }
+        ensures failed { OnErr result (has_failed self.new.waits.answers ≡ true) }
+        ensures kept { self.new ≡ record self.old { poll = self.new.poll; waits = self.new.waits } }
+    {
+        match self.poll.poll(events, Some(limit)) {
+            Ok(()) => {
+                self.waits.note(Answer::Went(0), &[]);
+                Ok(())
+            }
+            Err(error) => {
+                self.waits.note(Answer::Failed, &[]);
+                Err(error)
+            }
+        }
     }
 
     /// Receives a datagram that waits. Each socket has its turn, and nothing waits where each was found empty.
     pub fn receive(&mut self, room: &mut [u8]) -> io::Result<Received>
-        ensures { IfOk result (λ received. IsReceived received (length room.old)) }
+        ensures range { IfOk result (λ received. IsReceived received (length room.old)) }
+        ensures ok { IfOk result (λ received. HasAsked received room.new self.old self.new) }
+        ensures err { OnErr result (HasFailed self.old self.new) }
+        ensures asked { IfOk result (λ received. IsSomething received (times_asked self.old < times_asked self.new)) }
+        ensures kept { self.new ≡ record self.old { signals = self.new.signals; signal_turn = self.new.signal_turn } }
+        ensures count { vec_len self.new.signals ≡ vec_len self.old.signals }
     {
         for _ in 0..self.signals.len() {
             let via = pass(&mut self.signal_turn, self.signals.len());
@@ -198,47 +191,54 @@ impl Sockets {
     }
 
     /// Receives a datagram that waits at the socket of this place.
-    fn receive_at(&self, via: usize, room: &mut [u8]) -> io::Result<Received>
-        ensures { IfOk result (λ received. IsReceived received (length room.old)) }
+    fn receive_at(&mut self, via: usize, room: &mut [u8]) -> io::Result<Received>
+        requires { via < vec_len self.old.signals }
+        ensures range { IfOk result (λ received. IsReceived received (length room.old)) }
+        ensures ok { IfOk result (λ received. HasReceivedAt received via room.new self.old self.new) }
+        ensures err { OnErr result (HasFailedAt via self.old self.new) }
+        ensures asked { times_asked self.new ≡ times_asked self.old + 1 }
+        ensures beside { SameSignalsBeside self.old via self.new }
+        ensures kept { self.new ≡ record self.old { signals = self.new.signals } }
+        ensures count { vec_len self.new.signals ≡ vec_len self.old.signals }
     {
-        let Some(signal) = self.signals.get(via) else {
-            return Ok(Received::Nothing);
-        };
-        match signal.socket.recv_from(room) {
-            Ok((len, from)) => Ok(Received::Datagram { len, from, via }),
-            Err(error) => match error.kind() {
-                ErrorKind::WouldBlock => Ok(Received::Nothing),
-                ErrorKind::Interrupted | ErrorKind::ConnectionRefused => Ok(Received::Again),
-                _ => Err(error),
-            },
+        match self.signals.get_mut(via) {
+            Some(signal) => signal.receive(via, room),
+            None => Ok(Received::Nothing),
         }
     }
 
     /// Sends a datagram, from the socket of the way. It is lost where it would have to wait.
-    pub fn send_to(&self, bytes: &[u8], way: Way) -> Sent {
-        let place = match way.via {
-            Some(via) => via,
-            None => self.place_for(way.to),
-        };
-        match self.signals.get(place) {
+    pub fn send_to(&mut self, bytes: &[u8], way: Way) -> Sent
+        ensures sent { let place = place_of way self.old.signals.items in
+            IsSentFrom result bytes.now (signal_at self.old place) (signal_at self.new place) }
+        ensures beside { SameSignalsBeside self.old (place_of way self.old.signals.items) self.new }
+        ensures kept { self.new ≡ record self.old { signals = self.new.signals } }
+    {
+        let place = self.place_of(way);
+        match self.signals.get_mut(place) {
             Some(signal) => signal.send(bytes, way.to),
             None => Sent::Lost,
         }
     }
 
-    /// The place of the first socket for the family of the address, or 0.
-    fn place_for(&self, to: SocketAddr) -> usize {
-        for (place, signal) in self.signals.iter().enumerate() {
-            if signal.is_v6 == to.is_ipv6() {
-                return place;
-            }
+    /// The place of the socket from which is sent: that of the way, or the first one for the family of the address, or 0.
+    fn place_of(&self, way: Way) -> usize
+        ensures { result ≡ place_of way self.now.signals.items }
+    {
+        match way.via {
+            Some(via) => via,
+            None => first_for(self.signals.as_slice(), way.to.is_ipv6()).unwrap_or(0),
         }
-        0
     }
 
     /// Accepts a connection that waits, and lets waits tell of it under the place. Each socket has its turn, and none waits where each
     /// was found empty.
-    pub fn accept(&mut self, place: usize) -> Accepted {
+    pub fn accept(&mut self, place: usize) -> Accepted
+        ensures accepted { HasAccepted result self.old self.new }
+        ensures tried { IsAny result (times_tried self.old < times_tried self.new) }
+        ensures kept { self.new ≡ record self.old { listeners = self.new.listeners; listener_turn = self.new.listener_turn } }
+        ensures count { vec_len self.new.listeners ≡ vec_len self.old.listeners }
+    {
         for _ in 0..self.listeners.len() {
             let at = pass(&mut self.listener_turn, self.listeners.len());
             match self.accept_at(at, place) {
@@ -250,41 +250,35 @@ impl Sockets {
     }
 
     /// The same at the socket of this place.
-    fn accept_at(&self, at: usize, place: usize) -> Accepted {
-        let Some(listener) = self.listeners.get(at) else {
+    fn accept_at(&mut self, at: usize, place: usize) -> Accepted
+        requires { at < vec_len self.old.listeners }
+        ensures accepted { HasGivenAt result at self.old self.new }
+        ensures tried { times_tried self.new ≡ times_tried self.old + 1 }
+        ensures beside { SameListenersBeside self.old at self.new }
+        ensures kept { self.new ≡ record self.old { listeners = self.new.listeners } }
+        ensures count { vec_len self.new.listeners ≡ vec_len self.old.listeners }
+    {
+        let Some(listener) = self.listeners.get_mut(at) else {
             return Accepted::Nothing;
         };
         match listener.accept() {
-            Ok((stream, from)) => self.admit(stream, from, place),
-            Err(error) => match error.kind() {
-                ErrorKind::WouldBlock => Accepted::Nothing,
-                ErrorKind::Interrupted | ErrorKind::ConnectionAborted => Accepted::Again,
-                _ => Accepted::Stuck,
-            },
+            Accepted::Stream { stream, from } => self.admit(stream, from, place),
+            Accepted::Nothing => Accepted::Nothing,
+            Accepted::Again => Accepted::Again,
+            Accepted::Stuck => Accepted::Stuck,
         }
     }
 
-    fn admit(&self, mut stream: TcpStream, from: SocketAddr, place: usize) -> Accepted {
+    /// Lets waits tell of the connection under the place.
+    fn admit(&self, mut stream: TcpStream, from: SocketAddr, place: usize) -> Accepted
+        ensures { IsAdmitted result from }
+    {
         let registry = self.poll.registry();
         let registered = registry.register(&mut stream, Token(place), Interest::READABLE);
         if registered.is_err() || stream.set_nodelay(true).is_err() {
             return Accepted::Again;
         }
         Accepted::Stream { stream, from }
-    }
-}
-
-impl Signal {
-    fn send(&self, bytes: &[u8], to: SocketAddr) -> Sent {
-        let to = if self.is_v6 && to.is_ipv4() {
-            mapped(to)
-        } else {
-            to
-        };
-        match self.socket.send_to(bytes, to) {
-            Ok(count) if count == bytes.len() => Sent::Done,
-            _ => Sent::Lost,
-        }
     }
 }
 
@@ -296,12 +290,22 @@ fn token_of(first: usize, count: usize) -> io::Result<Token> {
     Ok(Token(first.saturating_add(count)))
 }
 
+/// The place of the first socket for the family, IPv6 or IPv4.
+fn first_for(signals: &[Signal], is_v6: bool) -> Option<usize>
+    ensures { result ≡ position (is_for is_v6) signals.now }
+{
+    signals.iter().position(|signal| signal.is_for(is_v6))
+}
+
 /// The place whose turn it is among so many. The next one has the turn then.
 fn pass(turn: &mut usize, count: usize) -> usize
-    ensures { 0 < count → result < count }
+    requires { 0 < count }
+    ensures place { result ≡ whose_turn turn.old count }
+    ensures within { result < count }
+    ensures next { turn.new ≡ result + 1 }
 {
-    let place = turn.checked_rem(count).unwrap_or(0);
-    *turn = place.saturating_add(1);
+    let place = if *turn < count { *turn } else { 0 };
+    *turn = place + 1;
     place
 }
 

@@ -1,4 +1,4 @@
-use Rattle.std.proofs.Common.{arith, rules}
+use Rattle.std.proofs.Common.{rules}
 use Rattle.dots_edge.proofs.PlaceLemmas.{sound_written, idle_written}
 use Rattle.dots_edge.proofs.connections.Connections.close.Goals as goal
 

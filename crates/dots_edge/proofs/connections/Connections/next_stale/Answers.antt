@@ -1,4 +1,4 @@
-use Rattle.std.proofs.Common.{◌≡◌, ◌∙◌, ◌+◌, None, refl, sym, subst, arith}
+use Rattle.std.proofs.Common.{◌∙◌, sym, subst, arith}
 use Rattle.dots_edge.specs.Places.{at_place, ends_at, AreSwept, NoneEnds}
 use Rattle.dots_edge.proofs.SweepLemmas.{swept_more, none_ends_more, same_open_swept, none_ends}
 use Rattle.dots_edge.proofs.connections.Connections.next_stale.Goals as goal

@@ -1,4 +1,4 @@
-use Rattle.std.proofs.Common.{arith, rules}
+use Rattle.std.proofs.Common.{rules}
 use Rattle.dots_edge.proofs.PlaceLemmas.{sound_written, opened_written, none_beyond}
 use Rattle.dots_edge.proofs.connections.Connections.send.Goals as goal
 

@@ -1,5 +1,9 @@
+use Rattle.std.proofs.Common.{◌+◌, ◌≤◌, length}
 use Rattle.dots_edge.specs.Places.{SameOpen}
 use Rattle.dots_edge.proofs.ends.Ends.next.Given as goal
 
 abbrev pub invariant-loop : goal.invariant-loop
-invariant-loop g l = SameOpen l.initial.self.connections l.self.connections
+invariant-loop g l = record {
+  same : SameOpen l.initial.self.connections l.self.connections;
+  clock : length l.initial.self.clock.answers + l.counter ≤ length l.self.clock.answers;
+}

@@ -1,5 +1,11 @@
-use Rattle.std.proofs.Common.{◌≡◌}
+use Rattle.std.proofs.Common.{◌≡◌, ◌+◌, ◌≤◌, true}
+use Rattle.dots_edge.specs.Datagrams.{times_asked}
 use Rattle.dots_edge.proofs.ends.Ends.next_datagram.Given as goal
 
 abbrev pub invariant-loop : goal.invariant-loop
-invariant-loop l = l.self.connections ≡ l.initial.self.connections
+invariant-loop l = record {
+  connections : l.self.connections ≡ l.initial.self.connections;
+  clock : l.self.clock ≡ l.initial.self.clock;
+  waits : l.self.waiting.datagrams ≡ true;
+  asked : times_asked l.initial.self.sockets + l.counter ≤ times_asked l.self.sockets;
+}

@@ -1,5 +1,13 @@
-use Rattle.std.proofs.Common.{◌≡◌}
+use Rattle.std.proofs.Common.{◌≡◌, ◌+◌, ◌≤◌}
+use Rattle.dots_edge.specs.declared.waiting.Accepting.TheVariants as accepting
+use Rattle.dots_edge.specs.Accepts.{times_tried}
 use Rattle.dots_edge.proofs.ends.Ends.next_opened.Given as goal
 
 abbrev pub invariant-loop : goal.invariant-loop
-invariant-loop l = l.self.connections ≡ l.initial.self.connections
+invariant-loop l = record {
+  connections : l.self.connections ≡ l.initial.self.connections;
+  clock : l.self.clock ≡ l.initial.self.clock;
+  told : l.self.sockets.waits ≡ l.initial.self.sockets.waits;
+  waits : l.self.waiting.connections ≡ accepting.Yes;
+  tried : times_tried l.initial.self.sockets + l.counter ≤ times_tried l.self.sockets;
+}
