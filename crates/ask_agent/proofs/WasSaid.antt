@@ -16,14 +16,14 @@ use Rattle.dots_client.specs.declared.heard.Heard.{Heard}
 use Rattle.dots_client.specs.declared.heard.Heard.TheVariants as heard
 use Rattle.dots_client.specs.Answers.{GrantsMid}
 use Rattle.dots_client.specs.Client.{ClientValue, has_mid, is_over, left_at, tick_after}
-use Rattle.dots_client.specs.Hearing.{Hears}
+use Rattle.dots_client.specs.Receiving.{Receives}
 use Rattle.dots_client.specs.Ledger.{with_row, without_row}
 use Rattle.ask_settings.specs.declared.settings.AskSettings.{AskSettings}
 use Rattle.ask_agent.specs.declared.firsts.Firsts.{Firsts}
 use Rattle.ask_agent.specs.declared.refusal.Refusal.{Refusal}
 use Rattle.ask_agent.specs.declared.unsent.Why.{Why}
 use Rattle.ask_agent.specs.declared.unsent.Why.TheVariants as why
-use Rattle.ask_agent.specs.Asking.{AskState, Makes, AsksEach, Drains, HearsServer, HearsNothing, HearsEvent, Takes, Turns, at_time, refused_after, step, start_of}
+use Rattle.ask_agent.specs.Asking.{AskState, Makes, AsksEach, Drains, ReceivesDatagram, ReceivesNothing, ReceivesEvent, Takes, Turns, at_time, refused_after, step, start_of}
 use Rattle.ask_agent.specs.Said.{IsSaid, Said, AreGranted, IsRefusedBy, WasSaid}
 
 -- ---- what was said stays said
@@ -119,58 +119,58 @@ said_asked server acts (suc count) old new (between, next, rest) was =
 abbrev Speaks : ℕ → List Timed → List ℕ → Type 1
 Speaks server acts bytes = (says : CoapMessage → Type 0) (m : CoapMessage) → IsMessage m → bytes ≡ spelling m → says m → Said server says acts
 
-heard_state : (server : ℕ) (acts : List Timed) (old : AskState) (bytes : List ℕ) (said : Heard) (client : ClientValue) → Speaks server acts bytes → Hears old.client bytes old.time said client
+received_state : (server : ℕ) (acts : List Timed) (old : AskState) (bytes : List ℕ) (said : Heard) (client : ClientValue) → Speaks server acts bytes → Receives old.client bytes old.time said client
     → AreGranted server acts old.client.ledger → IsRefusedBy server acts old.refused → AreGranted server acts client.ledger × IsRefusedBy server acts (refused_after old.refused said)
-heard_state server acts old bytes (heard.Granted mid) client speaks (m, request, message, spelled, answers, tells) rows refused =
+received_state server acts old bytes (heard.Granted mid) client speaks (m, request, message, spelled, answers, tells) rows refused =
     let (same, asked, lifetime, scope, grants, leaves) = tells in (
       subst (λ (c : ClientValue). AreGranted server acts c.ledger) (sym leaves)
           (granted_with server acts (record { mid = mid; asked = asked; lifetime = lifetime; at = old.time }) old.client.ledger
           (speaks (λ n. GrantsMid mid n lifetime) m message spelled (subst (λ k. GrantsMid k m lifetime) (sym same) grants)) rows),
       refused,
     )
-heard_state server acts old bytes (heard.Withdrawn mid) client speaks (m, request, message, spelled, answers, tells) rows refused =
+received_state server acts old bytes (heard.Withdrawn mid) client speaks (m, request, message, spelled, answers, tells) rows refused =
     let (same, scope, code, leaves) = tells in
     (subst (λ (c : ClientValue). AreGranted server acts c.ledger) (sym leaves) (granted_without server acts mid old.client.ledger rows), refused)
-heard_state server acts old bytes (heard.Refused mid code) client speaks (m, request, message, spelled, answers, tells) rows refused =
+received_state server acts old bytes (heard.Refused mid code) client speaks (m, request, message, spelled, answers, tells) rows refused =
     let (same, code_is, none, nor, leaves) = tells in
     (subst (λ (c : ClientValue). AreGranted server acts c.ledger) (sym leaves) rows, speaks (λ n. n.code ≡ code) m message spelled (sym code_is))
-heard_state server acts old bytes (heard.Beat answer) client speaks (m, message, spelled, beat, answer_is, leaves) rows refused =
+received_state server acts old bytes (heard.Beat answer) client speaks (m, message, spelled, beat, answer_is, leaves) rows refused =
     (subst (λ (c : ClientValue). AreGranted server acts c.ledger) (sym leaves) rows, refused)
-heard_state server acts old bytes heard.Nothing client speaks (none, leaves) rows refused =
+received_state server acts old bytes heard.Nothing client speaks (none, leaves) rows refused =
     (subst (λ (c : ClientValue). AreGranted server acts c.ledger) (sym leaves) rows, refused)
-heard_state server acts old bytes heard.NoMemory client speaks (m, request, message, spelled, answers, scope, leaves) rows refused =
+received_state server acts old bytes heard.NoMemory client speaks (m, request, message, spelled, answers, scope, leaves) rows refused =
     (subst (λ (c : ClientValue). AreGranted server acts c.ledger) (sym leaves) rows, refused)
 
 equal_of : (a b : ℕ) → eqb a b ≡ true → a ≡ b
 equal_of a b is = elim (eqb_tells a b) [ inl same ↦ same.1 | inr other ↦ absurd (false≢true (sym other.0 ∙ is)) ]
 
-heard_datagram : (server : ℕ) (front : List Timed) (timed : Timed) (from at : ℕ) (bytes : List ℕ) (old new : AskState) (answers : List (List ℕ)) (is : Bool) → eqb from old.server ≡ is
-    → timed.act ≡ took (event.Datagram from bytes) at → MatchBool is (HearsServer old bytes answers new) (HearsNothing old answers new) → WasSaid server front old
+received_datagram : (server : ℕ) (front : List Timed) (timed : Timed) (from at : ℕ) (bytes : List ℕ) (old new : AskState) (answers : List (List ℕ)) (is : Bool) → eqb from old.server ≡ is
+    → timed.act ≡ took (event.Datagram from bytes) at → MatchBool is (ReceivesDatagram old bytes answers new) (ReceivesNothing old answers new) → WasSaid server front old
     → WasSaid server (front ++ timed ∷ []) new
-heard_datagram server front timed from at bytes old new answers false test act (none, leaves) was =
+received_datagram server front timed from at bytes old new answers false test act (none, leaves) was =
     said_then server front (timed ∷ []) new (subst (WasSaid server front) (sym leaves) was)
-heard_datagram server front timed from at bytes old new answers true test act hears was =
+received_datagram server front timed from at bytes old new answers true test act receives was =
     let before = said_then server front (timed ∷ []) old was in
     let speaks : Speaks server (front ++ timed ∷ []) bytes = λ says m message spelled told.
     said_last server says front timed (subst (IsSaid server says) (sym act) (equal_of from old.server test ∙ was.same, m, message, spelled, told)) in
-    let (rows, refused) = heard_state server (front ++ timed ∷ []) old bytes hears.said hears.client speaks hears.hears before.granted before.refused in
-    subst (WasSaid server (front ++ timed ∷ [])) (sym hears.leaves) (record { same = was.same; granted = rows; refused = refused })
+    let (rows, refused) = received_state server (front ++ timed ∷ []) old bytes receives.said receives.client speaks receives.receives before.granted before.refused in
+    subst (WasSaid server (front ++ timed ∷ [])) (sym receives.leaves) (record { same = was.same; granted = rows; refused = refused })
 
-heard_nothing : (server : ℕ) (front : List Timed) (timed : Timed) (old new : AskState) (answers : List (List ℕ)) → HearsNothing old answers new → WasSaid server front old
+received_nothing : (server : ℕ) (front : List Timed) (timed : Timed) (old new : AskState) (answers : List (List ℕ)) → ReceivesNothing old answers new → WasSaid server front old
     → WasSaid server (front ++ timed ∷ []) new
-heard_nothing server front timed old new answers (none, leaves) was = said_then server front (timed ∷ []) new (subst (WasSaid server front) (sym leaves) was)
+received_nothing server front timed old new answers (none, leaves) was = said_then server front (timed ∷ []) new (subst (WasSaid server front) (sym leaves) was)
 
-heard_event : (server : ℕ) (front : List Timed) (timed : Timed) (came : Event) (at : ℕ) (old new : AskState) (answers : List (List ℕ)) → timed.act ≡ took came at
-    → HearsEvent old came answers new → WasSaid server front old → WasSaid server (front ++ timed ∷ []) new
-heard_event server front timed (event.Datagram from bytes) at old new answers act hears was =
-    heard_datagram server front timed from at bytes old new answers (eqb from old.server) refl act hears was
-heard_event server front timed (event.Opened conn from) at old new answers act hears was = heard_nothing server front timed old new answers hears was
-heard_event server front timed (event.Piece conn bytes) at old new answers act hears was = heard_nothing server front timed old new answers hears was
-heard_event server front timed (event.Closed conn) at old new answers act hears was = heard_nothing server front timed old new answers hears was
-heard_event server front timed event.Tick at old new answers act hears was = heard_nothing server front timed old new answers hears was
-heard_event server front timed event.Restart at old new answers act hears was = heard_nothing server front timed old new answers hears was
-heard_event server front timed event.End at old new answers act hears was = heard_nothing server front timed old new answers hears was
-heard_event server front timed event.Failed at old new answers act hears was = heard_nothing server front timed old new answers hears was
+received_event : (server : ℕ) (front : List Timed) (timed : Timed) (came : Event) (at : ℕ) (old new : AskState) (answers : List (List ℕ)) → timed.act ≡ took came at
+    → ReceivesEvent old came answers new → WasSaid server front old → WasSaid server (front ++ timed ∷ []) new
+received_event server front timed (event.Datagram from bytes) at old new answers act receives was =
+    received_datagram server front timed from at bytes old new answers (eqb from old.server) refl act receives was
+received_event server front timed (event.Opened conn from) at old new answers act receives was = received_nothing server front timed old new answers receives was
+received_event server front timed (event.Piece conn bytes) at old new answers act receives was = received_nothing server front timed old new answers receives was
+received_event server front timed (event.Closed conn) at old new answers act receives was = received_nothing server front timed old new answers receives was
+received_event server front timed event.Tick at old new answers act receives was = received_nothing server front timed old new answers receives was
+received_event server front timed event.Restart at old new answers act receives was = received_nothing server front timed old new answers receives was
+received_event server front timed event.End at old new answers act receives was = received_nothing server front timed old new answers receives was
+received_event server front timed event.Failed at old new answers act receives was = received_nothing server front timed old new answers receives was
 
 -- ---- an event
 
@@ -178,8 +178,8 @@ taken_said : (server : ℕ) (front : List Timed) (timed : Timed) (came : Event) 
     → WasSaid server front old → WasSaid server (front ++ timed ∷ []) new
 taken_said server front timed came at outs old new act takes was =
     let acts = front ++ timed ∷ [] in
-    let heard = heard_event server front timed came at (at_time old at) takes.heard takes.answers act takes.hears (record { same = was.same; granted = was.granted; refused = was.refused }) in
-    let asked = said_asked server acts takes.asks.0 takes.heard takes.asked takes.asks.1 heard in
+    let received = received_event server front timed came at (at_time old at) takes.received takes.answers act takes.receives (record { same = was.same; granted = was.granted; refused = was.refused }) in
+    let asked = said_asked server acts takes.asks.0 takes.received takes.asked takes.asks.1 received in
     let (client, drains, leaves) = takes.hands in
     subst (WasSaid server acts) (sym leaves)
     (record { same = asked.same; granted = granted_drained server acts takes.asked.time takes.asked.client client takes.messages drains asked.granted; refused = asked.refused })

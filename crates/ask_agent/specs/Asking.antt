@@ -13,7 +13,7 @@ use Rattle.dots_client.specs.declared.granted.Granted.{Granted}
 use Rattle.dots_client.specs.declared.heard.Heard.{Heard}
 use Rattle.dots_client.specs.declared.heard.Heard.TheVariants as heard
 use Rattle.dots_client.specs.Client.{ClientValue, has_mid, ask_fault, Faults, asked_at, tick_answer, tick_after}
-use Rattle.dots_client.specs.Hearing.{Hears}
+use Rattle.dots_client.specs.Receiving.{Receives}
 use Rattle.ask_settings.specs.declared.planned.Planned.{Planned}
 use Rattle.ask_settings.specs.declared.settings.AskSettings.{AskSettings}
 use Rattle.ask_agent.specs.declared.firsts.Firsts.{Firsts}
@@ -141,20 +141,20 @@ refused_after before (heard.Refused mid code) = Some (record { mid = mid; code =
 refused_after before _ = before
 
 -- a datagram of the server
-pub record HearsServer (old : AskState) (bytes : List ℕ) (answers : List (List ℕ)) (new : AskState) : Type 0 where
+pub record ReceivesDatagram (old : AskState) (bytes : List ℕ) (answers : List (List ℕ)) (new : AskState) : Type 0 where
   pub said : Heard
   pub client : ClientValue
-  pub hears : Hears old.client bytes old.time said client
+  pub receives : Receives old.client bytes old.time said client
   pub answered : answers ≡ answers_to said
   pub leaves : new ≡ record old { client = client; refused = refused_after old.refused said }
 
-abbrev pub HearsNothing : AskState → List (List ℕ) → AskState → Type 0
-HearsNothing old answers new = (answers ≡ []) × (new ≡ old)
+abbrev pub ReceivesNothing : AskState → List (List ℕ) → AskState → Type 0
+ReceivesNothing old answers new = (answers ≡ []) × (new ≡ old)
 
 -- an event other than a datagram of the server says nothing
-abbrev pub HearsEvent : AskState → Event → List (List ℕ) → AskState → Type 0
-HearsEvent old (event.Datagram from bytes) answers new = MatchBool (from == old.server) (HearsServer old bytes answers new) (HearsNothing old answers new)
-HearsEvent old _ answers new = HearsNothing old answers new
+abbrev pub ReceivesEvent : AskState → Event → List (List ℕ) → AskState → Type 0
+ReceivesEvent old (event.Datagram from bytes) answers new = MatchBool (from == old.server) (ReceivesDatagram old bytes answers new) (ReceivesNothing old answers new)
+ReceivesEvent old _ answers new = ReceivesNothing old answers new
 
 -- ---- an event
 
@@ -164,11 +164,11 @@ at_time state at = record state { time = max state.time at }
 
 -- Time passes; what came is heard; the asks whose time is reached are made; and what is due is sent. All goes to the server.
 pub record Takes (old : AskState) (came : Event) (at : ℕ) (outs : List OwnedOut) (new : AskState) : Type 0 where
-  pub heard : AskState
+  pub received : AskState
   pub answers : List (List ℕ)
-  pub hears : HearsEvent (at_time old at) came answers heard
+  pub receives : ReceivesEvent (at_time old at) came answers received
   pub asked : AskState
-  pub asks : AsksDue heard asked
+  pub asks : AsksDue received asked
   pub messages : List (List ℕ)
   pub hands : HandsOut asked messages new
   pub sends : outs ≡ to_server old.server (answers ++ messages)

@@ -17,7 +17,7 @@ pub record AskOutcome (words : List (List ℕ)) (status : ℕ) (before now : Aro
   -- when the words ask for no client; which faults there must have been, and where none was
   pub commands : (status ≡ 2) ↔ (is_ask words ≡ false)
   pub read : status ≡ 5 → SourceFailed before now ⊎ WireFailed before now
-  pub heard : status ≢ 4 → status ≢ 5 → now.source_faults ≡ before.source_faults
+  pub source_read : status ≢ 4 → status ≢ 5 → now.source_faults ≡ before.source_faults
   pub written : status ≡ 9 → ReportFailed before now
   -- when the settings are refused, and when a run must go well, want of memory and 2^40 events without End aside
   pub refused : is_ask words ≡ true → GivesFault before.left → ¬ (SourceFailed before now) → (status ≡ 3) ⊎ (status ≡ 4)

@@ -71,7 +71,7 @@ word_name word.Prefixes = codes "words PREFIXES\n"
 -- ---- a run
 
 abbrev pub protect_status : ProtectEnding → ℕ
-protect_status (ending.Told said) = verdict_status said
+protect_status (ending.Judged said) = verdict_status said
 protect_status ending.ReportFailed = 9
 protect_status ending.NextFailed = 5
 protect_status ending.TooMany = 11
@@ -90,7 +90,7 @@ IsDone state acts = ((is_over state ≡ true) × GoOn acts) ⊎ ((is_over state 
 
 -- How the events stop. Where a failure of the wire was taken last, or 2^40 events were taken, the client isn't over.
 abbrev pub StopsAt : ProtectEnding → AskState → List Timed → Type 0
-StopsAt (ending.Told said) state acts = IsDone state acts
+StopsAt (ending.Judged said) state acts = IsDone state acts
 StopsAt ending.ReportFailed state acts = IsDone state acts
 StopsAt ending.NextFailed state acts = (is_over state ≡ false) × EndsBy event.Failed acts
 StopsAt ending.TooMany state acts = (is_over state ≡ false) × GoOn acts × (events_in acts ≡ 2 ^ 40)
@@ -104,35 +104,35 @@ pub record HasProtected (start : AskState) (how : ProtectEnding) (end : AskState
   pub stops : StopsAt how end acts
 
 -- what was written of the last state, and what must have failed: the line once, or a beginning of it, and else nothing
-abbrev pub TellsOf : ProtectEnding → Around → Around → AskState → Type 0
-TellsOf (ending.Told said) before now state = (said ≡ verdict_of state) × Appends before.held now.held (verdict_line said)
-TellsOf ending.ReportFailed before now state = AppendsBeginning before.held now.held (verdict_line (verdict_of state)) × ReportFailed before now
-TellsOf ending.NextFailed before now state = (now.held ≡ before.held) × WireFailed before now
-TellsOf ending.TooMany before now state = now.held ≡ before.held
-TellsOf _ before now state = ⊥
+abbrev pub EndsAs : ProtectEnding → Around → Around → AskState → Type 0
+EndsAs (ending.Judged said) before now state = (said ≡ verdict_of state) × Appends before.written now.written (verdict_line said)
+EndsAs ending.ReportFailed before now state = AppendsBeginning before.written now.written (verdict_line (verdict_of state)) × ReportFailed before now
+EndsAs ending.NextFailed before now state = (now.written ≡ before.written) × WireFailed before now
+EndsAs ending.TooMany before now state = now.written ≡ before.written
+EndsAs _ before now state = ⊥
 
 -- the same of a report alone
-abbrev pub Tells : AskState → ProtectEnding → Option (List ℕ) → ℕ → Option (List ℕ) → ℕ → Type 0
-Tells state (ending.Told said) old before new now = (said ≡ verdict_of state) × Appends old new (verdict_line said)
-Tells state ending.ReportFailed old before new now = AppendsBeginning old new (verdict_line (verdict_of state)) × Rose before now
-Tells state _ old before new now = ⊥
+abbrev pub ReportsVerdict : AskState → ProtectEnding → Option (List ℕ) → ℕ → Option (List ℕ) → ℕ → Type 0
+ReportsVerdict state (ending.Judged said) old before new now = (said ≡ verdict_of state) × Appends old new (verdict_line said)
+ReportsVerdict state ending.ReportFailed old before new now = AppendsBeginning old new (verdict_line (verdict_of state)) × Rose before now
+ReportsVerdict state _ old before new now = ⊥
 
 -- A client ran from the one state to the other: where the wire tells its acts, they are such a run of its machine; and what was written
 -- is what the last state says.
 pub record ProtectedTo (start : AskState) (how : ProtectEnding) (before now : Around) (end : AskState) : Type 0 where
   pub run : Added before.acts now.acts (HasProtected start how end)
-  pub tells : TellsOf how before now end
+  pub ends_as : EndsAs how before now end
 
 -- a client of these settings ran, or memory ran out before
 abbrev pub Protects : AskSettings → Firsts → ProtectEnding → Around → Around → Type 0
-Protects settings firsts ending.NoMemory before now = (now.acts ≡ before.acts) × (now.held ≡ before.held)
+Protects settings firsts ending.NoMemory before now = (now.acts ≡ before.acts) × (now.written ≡ before.written)
 Protects settings firsts how before now = (end : AskState) × ProtectedTo (start_of settings firsts) how before now end
 
 -- What a run of these words and this ending has done. Where it came to its wire, its settings are those of the words.
 abbrev pub HasDone : List (List ℕ) → ProtectEnding → Firsts → Around → Around → Type 0
 HasDone words (ending.WrongWord which) firsts before now =
-    (now.acts ≡ before.acts) × (protected_by words ≡ Err which) × Writes before.held now.held (word_name which) (ReportFailed before now)
-HasDone words ending.NoMemory firsts before now = (now.acts ≡ before.acts) × (now.held ≡ before.held)
+    (now.acts ≡ before.acts) × (protected_by words ≡ Err which) × Writes before.written now.written (word_name which) (ReportFailed before now)
+HasDone words ending.NoMemory firsts before now = (now.acts ≡ before.acts) × (now.written ≡ before.written)
 HasDone words how firsts before now =
     (settings : AskSettings) × (protected_by words ≡ Ok settings) × (end : AskState) × ProtectedTo (start_of settings firsts) how before now end
 
@@ -141,6 +141,6 @@ abbrev pub NamesWord : List (List ℕ) → ProtectEnding → Type 0
 NamesWord words how = (which : ProtectWord) → protected_by words ≡ Err which → (how ≡ ending.WrongWord which) ⊎ (how ≡ ending.NoMemory)
 
 -- where no word is at fault and no call failed, what became of the ask is told, want of memory and 2^40 events aside
-abbrev pub TellsVerdict : List (List ℕ) → ProtectEnding → Around → Around → Type 0
-TellsVerdict words how before now = (settings : AskSettings) → protected_by words ≡ Ok settings → ¬ (WireFailed before now) → ¬ (ReportFailed before now)
-    → ((said : Verdict) × (how ≡ ending.Told said)) ⊎ ((how ≡ ending.NoMemory) ⊎ (how ≡ ending.TooMany))
+abbrev pub ReachesVerdict : List (List ℕ) → ProtectEnding → Around → Around → Type 0
+ReachesVerdict words how before now = (settings : AskSettings) → protected_by words ≡ Ok settings → ¬ (WireFailed before now) → ¬ (ReportFailed before now)
+    → ((said : Verdict) × (how ≡ ending.Judged said)) ⊎ ((how ≡ ending.NoMemory) ⊎ (how ≡ ending.TooMany))

@@ -37,17 +37,17 @@ pub record Around : Type 0 where
   pub source_faults : ℕ
   pub acts : Option (List Timed)
   pub wire_faults : ℕ
-  pub held : Option (List ℕ)
+  pub written : Option (List ℕ)
   pub report_faults : ℕ
 
 -- what the source, the wire and the report say of themselves, in this order
 abbrev pub around : Option (List ℕ) → ℕ → Option (List Timed) → ℕ → Option (List ℕ) → ℕ → Around
-around left source_faults acts wire_faults held report_faults = record {
+around left source_faults acts wire_faults written report_faults = record {
   left = left;
   source_faults = source_faults;
   acts = acts;
   wire_faults = wire_faults;
-  held = held;
+  written = written;
   report_faults = report_faults;
 }
 
@@ -70,10 +70,10 @@ Stops _ acts = ⊥
 
 -- what was written of the last state, and what must have failed: the report where End came, or a beginning of it, and else nothing
 abbrev pub Reports : AskEnding → Around → Around → AskState → Type 0
-Reports ending.Reported before now state = Appends before.held now.held (report_of state)
-Reports ending.ReportFailed before now state = AppendsBeginning before.held now.held (report_of state) × ReportFailed before now
-Reports ending.NextFailed before now state = (now.held ≡ before.held) × WireFailed before now
-Reports ending.TooMany before now state = now.held ≡ before.held
+Reports ending.Reported before now state = Appends before.written now.written (report_of state)
+Reports ending.ReportFailed before now state = AppendsBeginning before.written now.written (report_of state) × ReportFailed before now
+Reports ending.NextFailed before now state = (now.written ≡ before.written) × WireFailed before now
+Reports ending.TooMany before now state = now.written ≡ before.written
 Reports _ before now state = ⊥
 
 -- the acts are a run of the client's machine from the one state to the other, which stops so
@@ -90,15 +90,15 @@ pub record RanTo (start : AskState) (how : AskEnding) (before now : Around) (end
 
 -- a client of these settings ran, or memory ran out before
 abbrev pub Begins : AskSettings → Firsts → AskEnding → Around → Around → Type 0
-Begins settings firsts ending.NoMemory before now = (now.acts ≡ before.acts) × (now.held ≡ before.held)
+Begins settings firsts ending.NoMemory before now = (now.acts ≡ before.acts) × (now.written ≡ before.written)
 Begins settings firsts how before now = (end : AskState) × RanTo (start_of settings firsts) how before now end
 
 -- What a run of this ending has done. Where it came to its wire, its settings are those of the file, where the source told its bytes.
 abbrev pub Behaves : AskEnding → Firsts → Around → Around → Type 0
 Behaves (ending.Refused line) firsts before now =
-    (now.acts ≡ before.acts) × IfSome before.left (λ file. meaning file ≡ Err line) × Writes before.held now.held (refusal_line line) (ReportFailed before now)
-Behaves ending.SettingsFailed firsts before now = (now.acts ≡ before.acts) × (now.held ≡ before.held) × SourceFailed before now
-Behaves ending.NoMemory firsts before now = (now.acts ≡ before.acts) × (now.held ≡ before.held)
+    (now.acts ≡ before.acts) × IfSome before.left (λ file. meaning file ≡ Err line) × Writes before.written now.written (refusal_line line) (ReportFailed before now)
+Behaves ending.SettingsFailed firsts before now = (now.acts ≡ before.acts) × (now.written ≡ before.written) × SourceFailed before now
+Behaves ending.NoMemory firsts before now = (now.acts ≡ before.acts) × (now.written ≡ before.written)
 Behaves how firsts before now =
     (settings : AskSettings) × IfSome before.left (λ file. meaning file ≡ Ok settings) × (end : AskState) × RanTo (start_of settings firsts) how before now end
 

@@ -6,7 +6,7 @@ ghost use Rattle.dots_host.specs.declared.out.OwnedOut.{OwnedOut};
 ghost use Rattle.dots_agents.specs.Sending.{Handed};
 ghost use Rattle.dots_client.specs.declared.client.TheConstants.{MAX_MID};
 ghost use Rattle.ask_settings.specs.File.{IsMidFit};
-ghost use Rattle.ask_agent.specs.Asking.{AskState, step, at_time, next_ask, AsksNext, AsksDue, HandsOut, HearsServer, HearsEvent, Takes, to_server, start_of};
+ghost use Rattle.ask_agent.specs.Asking.{AskState, step, at_time, next_ask, AsksNext, AsksDue, HandsOut, ReceivesDatagram, ReceivesEvent, Takes, to_server, start_of};
 ghost use Rattle.ask_agent.specs.Protecting.{is_over};
 ghost use Rattle.ask_agent.specs.Unmoved.{step_ends, step_fails};
 
@@ -126,7 +126,7 @@ impl Asker {
         ensures leads { W.leads wire.old wire.new }
     {
         self.pass(got.at);
-        self.hear(wire, got.what, room);
+        self.receive(wire, got.what, room);
         self.ask_due();
         self.hand_out(wire);
     }
@@ -139,9 +139,9 @@ impl Asker {
     }
 
     /// Hears what came, where it is a datagram of the server.
-    fn hear<W: Wire>(&mut self, wire: &mut W, what: What, room: &[u8])
+    fn receive<W: Wire>(&mut self, wire: &mut W, what: What, room: &[u8])
         requires { IsWithin what (length room.now) }
-        ensures hears { (answers : List (List ℕ)) × HearsEvent self.old (event_of what room.now) answers self.new
+        ensures hears { (answers : List (List ℕ)) × ReceivesEvent self.old (event_of what room.now) answers self.new
             × Handed (W.acts wire.old) (W.moment wire.old) (W.acts wire.new) (W.moment wire.new) (to_server self.old.server answers) }
         ensures server { self.new.server ≡ self.old.server }
         ensures faults { W.faults wire.new ≡ W.faults wire.old }
@@ -150,7 +150,7 @@ impl Asker {
         match what {
             What::Datagram { from, len } => {
                 if from == self.server {
-                    return self.hear_server(wire, &room[..len]);
+                    return self.receive_datagram(wire, &room[..len]);
                 }
             }
             _ => {}
@@ -158,8 +158,8 @@ impl Asker {
     }
 
     /// Hears a datagram of the server, and answers a heartbeat.
-    fn hear_server<W: Wire>(&mut self, wire: &mut W, bytes: &[u8])
-        ensures hears { (answers : List (List ℕ)) × HearsServer self.old bytes.now answers self.new
+    fn receive_datagram<W: Wire>(&mut self, wire: &mut W, bytes: &[u8])
+        ensures hears { (answers : List (List ℕ)) × ReceivesDatagram self.old bytes.now answers self.new
             × Handed (W.acts wire.old) (W.moment wire.old) (W.acts wire.new) (W.moment wire.new) (to_server self.old.server answers) }
         ensures server { self.new.server ≡ self.old.server }
         ensures faults { W.faults wire.new ≡ W.faults wire.old }

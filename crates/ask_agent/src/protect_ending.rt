@@ -8,7 +8,7 @@ use ask_settings::ProtectWord;
 #[derive(Clone, Copy)]
 pub enum ProtectEnding {
     /// No request waits any more, or End came before, and what became of the ask is written.
-    Told(Verdict),
+    Judged(Verdict),
     /// The same, and it couldn't be written.
     ReportFailed,
     /// The wire failed.
@@ -27,7 +27,7 @@ impl ProtectEnding {
         ensures { result ≡ protect_status self }
     {
         match self {
-            ProtectEnding::Told(verdict) => verdict.status(),
+            ProtectEnding::Judged(verdict) => verdict.status(),
             ProtectEnding::WrongWord(_) => 2,
             ProtectEnding::NoMemory => 4,
             ProtectEnding::NextFailed => 5,

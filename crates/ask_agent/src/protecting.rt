@@ -7,7 +7,7 @@ ghost use Rattle.ask_settings.specs.File.{IsMidFit};
 ghost use Rattle.ask_agent.specs.declared.protect_ending.ProtectEnding.TheVariants as ending;
 ghost use Rattle.ask_agent.specs.Asking.{start_of};
 ghost use Rattle.ask_agent.specs.Commands.{is_protect};
-ghost use Rattle.ask_agent.specs.Protecting.{has_protected, is_over, word_name, Tells, ProtectedTo, Protects, HasDone, NamesWord, TellsVerdict};
+ghost use Rattle.ask_agent.specs.Protecting.{has_protected, is_over, word_name, ReportsVerdict, ProtectedTo, Protects, HasDone, NamesWord, ReachesVerdict};
 ghost use Rattle.ask_agent.specs.Running.{around};
 
 use crate::asker::Asker;
@@ -45,7 +45,7 @@ pub fn run_protect<W: Wire, K: Sink>(
     ensures written { result ≡ ending.ReportFailed → Rose (K.faults report.old) (K.faults report.new) }
     // When the words are refused, and when what became of the ask must be told.
     ensures refused { NamesWord (map string_bytes words.now) result }
-    ensures complete { TellsVerdict (map string_bytes words.now) result
+    ensures complete { ReachesVerdict (map string_bytes words.now) result
         (around None 0 (W.acts wire.old) (W.faults wire.old) (K.holds report.old) (K.faults report.old))
         (around None 0 (W.acts wire.new) (W.faults wire.new) (K.holds report.new) (K.faults report.new)) }
 {
@@ -112,19 +112,19 @@ fn take_until_over<W: Wire, K: Sink>(
 {
     let mut room = [0; MAX_EVENT_BYTES];
     match take_turns(client, wire, &mut room) {
-        Ok(_) => return tell(&client.asker, report),
+        Ok(_) => return report_verdict(&client.asker, report),
         Err(Halt::NextFailed) => return ProtectEnding::NextFailed,
         Err(Halt::TooMany) => return ProtectEnding::TooMany,
     }
 }
 
 /// Writes what became of the ask.
-fn tell<K: Sink>(asker: &Asker, report: &mut K) -> ProtectEnding
-    ensures { Tells asker.now result (K.holds report.old) (K.faults report.old) (K.holds report.new) (K.faults report.new) }
+fn report_verdict<K: Sink>(asker: &Asker, report: &mut K) -> ProtectEnding
+    ensures { ReportsVerdict asker.now result (K.holds report.old) (K.faults report.old) (K.holds report.new) (K.faults report.new) }
 {
     let verdict = verdict_of(asker);
     match write_verdict(verdict, report) {
-        Ok(()) => return ProtectEnding::Told(verdict),
+        Ok(()) => return ProtectEnding::Judged(verdict),
         Err(_) => return ProtectEnding::ReportFailed,
     }
 }

@@ -4,7 +4,7 @@ use Rattle.std.specs.Prelude.{◌⊎◌}
 use Rattle.std.proofs.lemmas.List.{append-nil}
 use Rattle.cbor_profile.specs.declared.major.Major.TheVariants as major_type
 use Rattle.cbor_profile.specs.Tree.{Tree, unsigned, negative, byte_string, text, array, mapping, tag, boolean, null, Trees, Pairs, count}
-use Rattle.cbor_profile.specs.Spelling.{begin, break, SpellsItems, SpellsPairs, Holds, IsInOrder, SpellsPlain, SpellsNest, SpellsWithin}
+use Rattle.cbor_profile.specs.Spelling.{begin, break, SpellsItems, SpellsPairs, Encloses, IsInOrder, SpellsPlain, SpellsNest, SpellsWithin}
 use Rattle.cbor_profile.specs.ItemReading.{Read, argument_at, items_at, pairs_at, value_at, indefinite_at, item_at, start_with}
 use Rattle.cbor_profile.proofs.Firsts.{open_begins, Starts, read_starts}
 use Rattle.cbor_profile.proofs.Again.{argument_again, head_begins, plain_again, list_of, items_list, items_again, open_items_again, pairs_again, open_pairs_again}
@@ -67,10 +67,10 @@ nest_again levels end Part again starts null bytes rest h = absurd h
 nest_again levels end Part again starts (array ts) bytes rest h =
     let content = h.0 in
     elim (h.1) [
-      | Holds.definite head counted e ↦
+      | Encloses.definite head counted e ↦
           ap (item_at (suc levels) end) (ap (λ (l : List ℕ). l ++ rest) e ∙ append_assoc head content rest) ∙ head_begins (suc levels) end (count ts) major_type.Array head (content ++ rest) counted tt
           ∙ array_definite levels end (count ts) counted.info Part again starts ts _ counted.following content rest (argument_again end counted.info (count ts) counted.following (content ++ rest) counted.argument) refl h.2
-      | Holds.indefinite e ↦
+      | Encloses.indefinite e ↦
           ap (item_at (suc levels) end) (ap (λ (l : List ℕ). l ++ rest) e ∙ ap (λ (l : List ℕ). begin 4 ∷ l) (append_assoc content (break ∷ []) rest))
           ∙ open_begins (suc levels) end (begin 4) major_type.Array (content ++ break ∷ rest) refl ∙ array_open levels end Part again starts ts _ content rest h.2
     ]
@@ -78,10 +78,10 @@ nest_again levels end Part again starts (mapping ps) bytes rest h =
     let content = h.0 in
     let read = h.1 in
     elim (h.2) [
-      | Holds.definite head counted e ↦
+      | Encloses.definite head counted e ↦
           ap (item_at (suc levels) end) (ap (λ (l : List ℕ). l ++ rest) e ∙ append_assoc head content rest) ∙ head_begins (suc levels) end (length read) major_type.Map head (content ++ rest) counted tt
           ∙ map_definite levels end (length read) counted.info Part again starts read ps _ counted.following content rest (argument_again end counted.info (length read) counted.following (content ++ rest) counted.argument) refl h.3 h.4
-      | Holds.indefinite e ↦
+      | Encloses.indefinite e ↦
           ap (item_at (suc levels) end) (ap (λ (l : List ℕ). l ++ rest) e ∙ ap (λ (l : List ℕ). begin 5 ∷ l) (append_assoc content (break ∷ []) rest))
           ∙ open_begins (suc levels) end (begin 5) major_type.Map (content ++ break ∷ rest) refl ∙ map_open levels end Part again starts read ps _ content rest h.3 h.4
     ]

@@ -10,7 +10,7 @@ use Rattle.std.proofs.lemmas.List.Sorted.{All-permutation, length_permutation}
 use Rattle.std.proofs.lemmas.Str.{IsUtf8-append}
 use Rattle.cbor_profile.specs.Tree.{Tree, unsigned, negative, byte_string, text, array, mapping, tag, boolean, null, Trees, no_items, item, pairs_of, count, pair_count}
 use Rattle.cbor_profile.specs.Valid.{IsSound, AreSound, ArePairsSound, depth, items_depth, pairs_depth}
-use Rattle.cbor_profile.specs.Spelling.{width, begin, break, IsArgument, itself, follows, IsHead, AreParts, SpellsString, Holds, SpellsItems, SpellsPairs, IsInOrder, SpellsPlain, SpellsNest, SpellsWithin}
+use Rattle.cbor_profile.specs.Spelling.{width, begin, break, IsArgument, itself, follows, IsHead, AreParts, SpellsString, Encloses, SpellsItems, SpellsPairs, IsInOrder, SpellsPlain, SpellsNest, SpellsWithin}
 use Rattle.cbor_profile.proofs.Firsts.{Starts}
 use Rattle.cbor_profile.proofs.Beginnings.{AreBytes, AreBytes-rest}
 use Rattle.cbor_profile.proofs.Nested.{PartStarts, within_starts}
@@ -164,10 +164,10 @@ module _ (levels : ℕ) (Part : List ℕ → Tree → Type 0) (starts : PartStar
       let d : pairs_depth ps ≡ pairs_depth (pairs_of order.sorted) = ap pairs_depth order.is in
       ((omega arith, subst ArePairsSound (sym order.is) made.0, order.rise), omega arith)
 
-  holds_content : (major n : ℕ) (content bytes : List ℕ) → ShortBytes bytes → Holds major n content bytes → ShortBytes content
+  holds_content : (major n : ℕ) (content bytes : List ℕ) → ShortBytes bytes → Encloses major n content bytes → ShortBytes content
   holds_content major n content bytes fits holds = elim holds [
-    | Holds.definite head counted is ↦ short_rest bytes head content fits is
-    | Holds.indefinite is ↦ short_front (content ++ break ∷ []) content (break ∷ []) (short_rest bytes (begin major ∷ []) (content ++ break ∷ []) fits is) refl
+    | Encloses.definite head counted is ↦ short_rest bytes head content fits is
+    | Encloses.indefinite is ↦ short_front (content ++ break ∷ []) content (break ∷ []) (short_rest bytes (begin major ∷ []) (content ++ break ∷ []) fits is) refl
   ]
 
   nest_sound : (t : Tree) (bytes : List ℕ) → ShortBytes bytes → SpellsNest Part bytes t → IsSound t × (depth t ≤ suc levels)

@@ -7,7 +7,7 @@ use Rattle.cbor_profile.specs.declared.major.Major.TheVariants as major_type
 use Rattle.cbor_profile.specs.declared.head.Start.{Start}
 use Rattle.cbor_profile.specs.Parts.{number_of}
 use Rattle.cbor_profile.specs.Tree.{Tree, unsigned, negative, byte_string, text, array, mapping, tag, items_of, pairs_of, count}
-use Rattle.cbor_profile.specs.Spelling.{begin, break, IsHead, SpellsString, Holds, SpellsPlain, SpellsWithin}
+use Rattle.cbor_profile.specs.Spelling.{begin, break, IsHead, SpellsString, Encloses, SpellsPlain, SpellsWithin}
 use Rattle.cbor_profile.specs.ItemReading.{parts_of, Read, ◌>>=◌, argument_at, string_at, parts_at, items_at, open_items_at, pairs_at, open_pairs_at, major_of, start_of, simple, value_at, indefinite_at, begun_at, item_at}
 use Rattle.cbor_profile.proofs.Results.{done, bind_ok, ok_is, not_both}
 use Rattle.cbor_profile.proofs.Firsts.{HasArgument, item_begins, nothing_short}
@@ -64,7 +64,7 @@ array_taken levels end info more x inner fits lt e =
     let made : Spelled (suc levels) ((32 * 4 + info) ∷ more) (array (items_of c.0.0), c.0.1) = record {
       front = head ++ items.0.content;
       is = ap (λ (l : List ℕ). (32 * 4 + info) ∷ l) (arg.is ∙ ap (λ (l : List ℕ). arg.following ++ l) items.0.is) ∙ sym (append_assoc head items.0.content c.0.1);
-      part = nest_within levels _ (array (items_of c.0.0)) (items.0.content, Holds.definite head counted refl, items.0.items);
+      part = nest_within levels _ (array (items_of c.0.0)) (items.0.content, Encloses.definite head counted refl, items.0.items);
     } in
     subst (Spelled (suc levels) ((32 * 4 + info) ∷ more)) (ok_is (array (items_of c.0.0), c.0.1) x c.2) made
 
@@ -84,7 +84,7 @@ map_taken levels end info more x inner fits lt e =
       is = ap (λ (l : List ℕ). (32 * 5 + info) ∷ l) (arg.is ∙ ap (λ (l : List ℕ). arg.following ++ l) pairs.0.is) ∙ sym (append_assoc head pairs.0.content c.0.1);
       part =
           nest_within levels _ (mapping (pairs_of c.0.0))
-          (pairs.0.content, pairs.0.read, Holds.definite head counted refl, pairs.0.pairs, record { sorted = c.0.0; same = order.1; is = refl; rise = order.0 });
+          (pairs.0.content, pairs.0.read, Encloses.definite head counted refl, pairs.0.pairs, record { sorted = c.0.0; same = order.1; is = refl; rise = order.0 });
     } in
     subst (Spelled (suc levels) ((32 * 5 + info) ∷ more)) (ok_is (mapping (pairs_of c.0.0), c.0.1) x c.2) made
 
@@ -138,7 +138,7 @@ open_array_taken levels end more x inner fits e =
     let made : Spelled (suc levels) (begin 4 ∷ more) (array (items_of b.0.0), b.0.1) = record {
       front = begin 4 ∷ (items.content ++ break ∷ []);
       is = ap (λ (l : List ℕ). begin 4 ∷ l) (items.is ∙ sym (append_assoc items.content (break ∷ []) b.0.1));
-      part = nest_within levels _ (array (items_of b.0.0)) (items.content, Holds.indefinite refl, items.items);
+      part = nest_within levels _ (array (items_of b.0.0)) (items.content, Encloses.indefinite refl, items.items);
     } in
     subst (Spelled (suc levels) (begin 4 ∷ more)) (ok_is (array (items_of b.0.0), b.0.1) x b.2) made
 
@@ -153,7 +153,7 @@ open_map_taken levels end more x inner fits e =
       is = ap (λ (l : List ℕ). begin 5 ∷ l) (pairs.is ∙ sym (append_assoc pairs.content (break ∷ []) b.0.1));
       part =
           nest_within levels _ (mapping (pairs_of b.0.0))
-          (pairs.content, pairs.read, Holds.indefinite refl, pairs.pairs, record { sorted = b.0.0; same = order.1; is = refl; rise = order.0 });
+          (pairs.content, pairs.read, Encloses.indefinite refl, pairs.pairs, record { sorted = b.0.0; same = order.1; is = refl; rise = order.0 });
     } in
     subst (Spelled (suc levels) (begin 5 ∷ more)) (ok_is (mapping (pairs_of b.0.0), b.0.1) x b.2) made
 

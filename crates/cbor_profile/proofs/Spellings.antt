@@ -6,7 +6,7 @@ use Rattle.cbor_profile.specs.Tree.{Tree, unsigned, negative, byte_string, text,
 use Rattle.cbor_profile.specs.Head.{head, information, following}
 use Rattle.cbor_profile.specs.Canon.{canon, canon_items, canon_pairs}
 use Rattle.cbor_profile.specs.Valid.{IsSound, AreSound, ArePairsSound, depth, items_depth, pairs_depth}
-use Rattle.cbor_profile.specs.Spelling.{IsArgument, itself, follows, IsHead, Fits, SpellsString, Holds, SpellsItems, SpellsPairs, SpellsPlain, SpellsNest, SpellsWithin}
+use Rattle.cbor_profile.specs.Spelling.{IsArgument, itself, follows, IsHead, Fits, SpellsString, Encloses, SpellsItems, SpellsPairs, SpellsPlain, SpellsNest, SpellsWithin}
 use Rattle.cbor_profile.specs.ItemReading.{item_at}
 use Rattle.cbor_profile.proofs.Results.{ok_is}
 use Rattle.cbor_profile.proofs.Heads.{Size, none, one, two, four, eight, size_of}
@@ -70,14 +70,14 @@ mutual
   canon_spells (text s) levels f d = plain_within levels _ (text s) (SpellsString.definite (record { head = head 3 (length s); counted = head_spells 3 (length s) f.0; fits = λ e. f.1; is = refl }))
   canon_spells (array ts) zero f d = absurd (omega arith)
   canon_spells (array ts) (suc levels) f d =
-      nest_within levels _ (array ts) (canon_items ts, Holds.definite (head 4 (count ts)) (head_spells 4 (count ts) f.0) refl, items_spell ts levels f.1 (omega arith))
+      nest_within levels _ (array ts) (canon_items ts, Encloses.definite (head 4 (count ts)) (head_spells 4 (count ts) f.0) refl, items_spell ts levels f.1 (omega arith))
   canon_spells (mapping ps) zero f d = absurd (omega arith)
   canon_spells (mapping ps) (suc levels) f d =
       let counted : IsHead 5 (length (list_pairs ps)) (head 5 (pair_count ps)) = rw (pairs_length ps) (head_spells 5 (pair_count ps) f.0) in
       nest_within levels _ (mapping ps) (
         canon_pairs ps,
         list_pairs ps,
-        Holds.definite (head 5 (pair_count ps)) counted refl,
+        Encloses.definite (head 5 (pair_count ps)) counted refl,
         pairs_spell ps levels f.1 (omega arith),
         record { sorted = list_pairs ps; same = IsPermutation-refl (list_pairs ps); is = pairs_list ps; rise = f.2 },
       )

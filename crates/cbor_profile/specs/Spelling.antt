@@ -58,9 +58,9 @@ pub data SpellsString (major : ℕ) (string bytes : List ℕ) : Type 0 where
 -- ---- arrays and maps
 
 -- bytes hold count parts: their content behind a head, or between the bytes of an indefinite length (section 3.2.2)
-pub data Holds (major count : ℕ) (content bytes : List ℕ) : Type 0 where
-  definite : (head : List ℕ) → IsHead major count head → bytes ≡ head ++ content → Holds major count content bytes
-  indefinite : bytes ≡ begin major ∷ (content ++ break ∷ []) → Holds major count content bytes
+pub data Encloses (major count : ℕ) (content bytes : List ℕ) : Type 0 where
+  definite : (head : List ℕ) → IsHead major count head → bytes ≡ head ++ content → Encloses major count content bytes
+  indefinite : bytes ≡ begin major ∷ (content ++ break ∷ []) → Encloses major count content bytes
 
 -- Below, Part says which bytes spell an item that is a part.
 
@@ -103,9 +103,9 @@ SpellsNest Part bytes (unsigned n) = ⊥
 SpellsNest Part bytes (negative n) = ⊥
 SpellsNest Part bytes (byte_string string) = ⊥
 SpellsNest Part bytes (text string) = ⊥
-SpellsNest Part bytes (array ts) = (content : List ℕ) × Holds 4 (count ts) content bytes × SpellsItems Part content ts
+SpellsNest Part bytes (array ts) = (content : List ℕ) × Encloses 4 (count ts) content bytes × SpellsItems Part content ts
 SpellsNest Part bytes (mapping ps) =
-    (content : List ℕ) × (read : List (Tree × Tree)) × Holds 5 (length read) content bytes × SpellsPairs Part content read × IsInOrder read ps
+    (content : List ℕ) × (read : List (Tree × Tree)) × Encloses 5 (length read) content bytes × SpellsPairs Part content read × IsInOrder read ps
 SpellsNest Part bytes (tag n t) = (head : List ℕ) × (content : List ℕ) × IsHead 6 n head × (bytes ≡ head ++ content) × Part content t
 SpellsNest Part bytes (boolean b) = ⊥
 SpellsNest Part bytes null = ⊥

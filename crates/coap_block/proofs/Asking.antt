@@ -22,6 +22,6 @@ seen_shorter m are = elim (cases_Bool (is_get m)) [
   | inr other ↦ rw other (omega arith)
 ]
 
-pub written_shorter : (written : Bool) (held text seen datagram : List ℕ) → seen ≡ (if written then held else text) → length seen ≤ length text → datagram ≡ text → OnTrue written (length held ≤ length datagram)
-written_shorter true held text seen datagram is shorter same = omega (arith, ap length is, shorter, ap length same)
-written_shorter false held text seen datagram is shorter same = tt
+pub written_shorter : (written : Bool) (filled text seen datagram : List ℕ) → seen ≡ (if written then filled else text) → length seen ≤ length text → datagram ≡ text → OnTrue written (length filled ≤ length datagram)
+written_shorter true filled text seen datagram is shorter same = omega (arith, ap length is, shorter, ap length same)
+written_shorter false filled text seen datagram is shorter same = tt

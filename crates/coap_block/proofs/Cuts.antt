@@ -13,18 +13,18 @@ use Rattle.coap_block.specs.Blocks.{with_block, head_size}
 use Rattle.coap_block.proofs.Sizes.{options_append, parts_size, no_longer, block_option_size, last_front, behind_are, among_are}
 
 abbrev pub put : Written → List ℕ → Written
-put room bytes = record room { held = room.held ++ bytes }
+put room bytes = record room { filled = room.filled ++ bytes }
 
-pub put_size : (old new : Written) (bytes : List ℕ) → new ≡ put old bytes → (length new.held ≡ length old.held + length bytes) × (new.most ≡ old.most)
-put_size old new bytes is = (ap (λ room. length room.held) is ∙ length-append old.held bytes, ap (λ room. room.most) is)
+pub put_size : (old new : Written) (bytes : List ℕ) → new ≡ put old bytes → (length new.filled ≡ length old.filled + length bytes) × (new.most ≡ old.most)
+put_size old new bytes is = (ap (λ room. length room.filled) is ∙ length-append old.filled bytes, ap (λ room. room.most) is)
 
-pub clear_size : (old new : Written) → new ≡ record old { held = [] } → (length new.held ≡ 0) × (new.most ≡ old.most)
-clear_size old new is = (ap (λ room. length room.held) is, ap (λ room. room.most) is)
+pub clear_size : (old new : Written) → new ≡ record old { filled = [] } → (length new.filled ≡ 0) × (new.most ≡ old.most)
+clear_size old new is = (ap (λ room. length room.filled) is, ap (λ room. room.most) is)
 
 pub put_three : (old one two three : Written) (a b c : List ℕ) → one ≡ put old a → two ≡ put one b → three ≡ put two c → three ≡ put old (a ++ b ++ c)
 put_three old one two three a b c e f g =
     g ∙ ap (λ room. put room c) (f ∙ ap (λ room. put room b) e)
-    ∙ ap (λ held. record { held = held; most = old.most }) (append_assoc (old.held ++ a) b c ∙ append_assoc old.held a (b ++ c) ∙ ap (λ bytes. old.held ++ bytes) (sym (append_assoc a b c)))
+    ∙ ap (λ filled. record { filled = filled; most = old.most }) (append_assoc (old.filled ++ a) b c ∙ append_assoc old.filled a (b ++ c) ∙ ap (λ bytes. old.filled ++ bytes) (sym (append_assoc a b c)))
 
 pub shortest_size : (n : ℕ) → length (shortest n) ≤ 3
 shortest_size n = elim (cases_Bool (n == 0)) [
@@ -51,32 +51,32 @@ front_are os options kind is are = subst (λ all. AreOptions 0 (among kind all))
 pub back_are : (os options : List CoapOption) → options ≡ os → AreOptions 0 os → AreOptions 23 (among which.BehindBlock options)
 back_are os options is are = subst (λ all. AreOptions 23 (among which.BehindBlock all)) (sym is) (behind_are 0 os are)
 
-pub front_fits : (held most : ℕ) (os options : List CoapOption) → options ≡ os → held + 3 * length (options_bytes 0 os) + 6 ≤ most → held + length (options_bytes 0 (among which.UpToBlock options)) ≤ most
-front_fits held most os options is room = subst (λ all. held + length (options_bytes 0 (among which.UpToBlock all)) ≤ most) (sym is) (omega (arith, parts_size 0 23 0 os, room))
+pub front_fits : (filled most : ℕ) (os options : List CoapOption) → options ≡ os → filled + 3 * length (options_bytes 0 os) + 6 ≤ most → filled + length (options_bytes 0 (among which.UpToBlock options)) ≤ most
+front_fits filled most os options is room = subst (λ all. filled + length (options_bytes 0 (among which.UpToBlock all)) ≤ most) (sym is) (omega (arith, parts_size 0 23 0 os, room))
 
 pub block_rises : (options : List CoapOption) (last : ℕ) → last ≡ last_number 0 (among which.UpToBlock options) → last ≤ 23
 block_rises options last is = subst (λ n. n ≤ 23) (sym is) (last_front 0 options (omega arith))
 
 pub block_fits : (old one : Written) (os options : List CoapOption) (last n : ℕ) (value : List ℕ) → options ≡ os → one ≡ put old (options_bytes 0 (among which.UpToBlock options)) → value ≡ shortest n
-    → length old.held + 3 * length (options_bytes 0 os) + 6 ≤ old.most → length one.held + length (option_bytes last (record { number = 23; value = value })) ≤ one.most
+    → length old.filled + 3 * length (options_bytes 0 os) + 6 ≤ old.most → length one.filled + length (option_bytes last (record { number = 23; value = value })) ≤ one.most
 block_fits old one os options last n value is one_is value_is room =
     let same : length (options_bytes 0 (among which.UpToBlock options)) ≡ length (options_bytes 0 (among which.UpToBlock os)) = ap (λ all. length (options_bytes 0 (among which.UpToBlock all))) is in
     let short : length value ≤ 3 = subst (λ bytes. length bytes ≤ 3) (sym value_is) (shortest_size n) in
-    let held : length one.held ≡ length old.held + length (options_bytes 0 (among which.UpToBlock options)) = ap (λ room. length room.held) one_is ∙ length-append old.held (options_bytes 0 (among which.UpToBlock options)) in
+    let filled : length one.filled ≡ length old.filled + length (options_bytes 0 (among which.UpToBlock options)) = ap (λ room. length room.filled) one_is ∙ length-append old.filled (options_bytes 0 (among which.UpToBlock options)) in
     let most : one.most ≡ old.most = ap (λ room. room.most) one_is in
-    omega (arith, parts_size 0 23 0 os, room, same, held, most, block_option_size last value short)
+    omega (arith, parts_size 0 23 0 os, room, same, filled, most, block_option_size last value short)
 
 pub back_fits : (old one two : Written) (os options others : List CoapOption) (last n : ℕ) (value : List ℕ) → options ≡ os → others ≡ os → one ≡ put old (options_bytes 0 (among which.UpToBlock options)) → value ≡ shortest n
     → two ≡ put one (option_bytes last (record { number = 23; value = value }))
-    → length old.held + 3 * length (options_bytes 0 os) + 6 ≤ old.most → length two.held + length (options_bytes 23 (among which.BehindBlock others)) ≤ two.most
+    → length old.filled + 3 * length (options_bytes 0 os) + 6 ≤ old.most → length two.filled + length (options_bytes 23 (among which.BehindBlock others)) ≤ two.most
 back_fits old one two os options others last n value is others_are one_is value_is two_is room =
     let same : length (options_bytes 0 (among which.UpToBlock options)) ≡ length (options_bytes 0 (among which.UpToBlock os)) = ap (λ all. length (options_bytes 0 (among which.UpToBlock all))) is in
     let back : length (options_bytes 23 (among which.BehindBlock others)) ≡ length (options_bytes 23 (among which.BehindBlock os)) = ap (λ all. length (options_bytes 23 (among which.BehindBlock all))) others_are in
     let short : length value ≤ 3 = subst (λ bytes. length bytes ≤ 3) (sym value_is) (shortest_size n) in
-    let held : length one.held ≡ length old.held + length (options_bytes 0 (among which.UpToBlock options)) = ap (λ room. length room.held) one_is ∙ length-append old.held (options_bytes 0 (among which.UpToBlock options)) in
-    let more : length two.held ≡ length one.held + length (option_bytes last (record { number = 23; value = value })) = ap (λ room. length room.held) two_is ∙ length-append one.held (option_bytes last (record { number = 23; value = value })) in
+    let filled : length one.filled ≡ length old.filled + length (options_bytes 0 (among which.UpToBlock options)) = ap (λ room. length room.filled) one_is ∙ length-append old.filled (options_bytes 0 (among which.UpToBlock options)) in
+    let more : length two.filled ≡ length one.filled + length (option_bytes last (record { number = 23; value = value })) = ap (λ room. length room.filled) two_is ∙ length-append one.filled (option_bytes last (record { number = 23; value = value })) in
     let most : two.most ≡ old.most = ap (λ room. room.most) two_is ∙ ap (λ room. room.most) one_is in
-    omega (arith, parts_size 0 23 0 os, room, same, back, held, more, most, block_option_size last value short)
+    omega (arith, parts_size 0 23 0 os, room, same, back, filled, more, most, block_option_size last value short)
 
 pub with_block_written : (old one two three : Written) (os options others : List CoapOption) (last : ℕ) (value : List ℕ) (block : BlockOption) → options ≡ os → others ≡ os
     → one ≡ put old (options_bytes 0 (among which.UpToBlock options)) → last ≡ last_number 0 (among which.UpToBlock options) → value ≡ shortest (block_number block)

@@ -16,8 +16,8 @@ use Rattle.coap_block.specs.Around.{IsSeen}
 use Rattle.coap_block.specs.Fetching.{Fetch, IsNoFirst, MakesNoFirst, IsBetween, IsFetched, FetchesRest, Fetches}
 use Rattle.coap_block.proofs.BesideAround.{stored_of, stored_new, stored_still, answer_cases}
 
-abbrev pub Holds : Fetch → Blocks → StoredBody → Type 0
-Holds fetch blocks body = stored_of fetch.peer fetch.request blocks.stored ≡ Some body
+abbrev pub HasStored : Fetch → Blocks → StoredBody → Type 0
+HasStored fetch blocks body = stored_of fetch.peer fetch.request blocks.stored ≡ Some body
 
 -- ---- what is stored stays
 
@@ -30,14 +30,14 @@ answered_still fetch (first block) asked m old new out body (inl made) none hold
 answered_still fetch (first block) asked m old new out body (inr made) none holds =
     ap (stored_of fetch.peer fetch.request) (made.1 ∙ sym (append-nil (without_peer asked.peer old))) ∙ stored_still fetch.peer asked.peer fetch.request old [] body none holds
 
-sent_still : (fetch : Fetch) (old new : Blocks) (peer : ℕ) (bytes leaves : List ℕ) (body : StoredBody) → Sends old peer bytes leaves new → MakesNoFirst fetch old peer bytes leaves new → Holds fetch old body → Holds fetch new body
+sent_still : (fetch : Fetch) (old new : Blocks) (peer : ℕ) (bytes leaves : List ℕ) (body : StoredBody) → Sends old peer bytes leaves new → MakesNoFirst fetch old peer bytes leaves new → HasStored fetch old body → HasStored fetch new body
 sent_still fetch old new peer bytes leaves body (inl reply) none holds = answered_still fetch _ reply.asked reply.message old.stored new.stored leaves body reply.answered (none reply) holds
 sent_still fetch old new peer bytes leaves body (inr other) none holds = ap (λ blocks. stored_of fetch.peer fetch.request blocks.stored) other.2 ∙ holds
 
-same_stored : (fetch : Fetch) (old new : Blocks) (body : StoredBody) → new.stored ≡ old.stored → Holds fetch old body → Holds fetch new body
+same_stored : (fetch : Fetch) (old new : Blocks) (body : StoredBody) → new.stored ≡ old.stored → HasStored fetch old body → HasStored fetch new body
 same_stored fetch old new body is holds = ap (stored_of fetch.peer fetch.request) is ∙ holds
 
-act_still : (fetch : Fetch) (old new : Blocks) (inner outer : WireAct) (body : StoredBody) → IsSeen old inner outer new → IsBetween fetch old inner outer new → Holds fetch old body → Holds fetch new body
+act_still : (fetch : Fetch) (old new : Blocks) (inner outer : WireAct) (body : StoredBody) → IsSeen old inner outer new → IsBetween fetch old inner outer new → HasStored fetch old body → HasStored fetch new body
 act_still fetch old new (took (event.Datagram f b) at) (took (event.Datagram g s) t) body seen none holds = same_stored fetch old new body seen.0.2 holds
 act_still fetch old new (took (event.Datagram f b) at) (took (event.Opened c g) t) body seen none holds = absurd seen.0
 act_still fetch old new (took (event.Datagram f b) at) (took (event.Piece c s) t) body seen none holds = absurd seen.0
@@ -66,7 +66,7 @@ act_still fetch old new (gave leaves done) (gave (owned.Close c) was) body seen 
 -- what a fetched block is cut from is stored then
 record Fetched (fetch : Fetch) (number : ℕ) (new : Blocks) (block : BlockOption) (text : List ℕ) (body : StoredBody) : Type 0 where
   text_is : text ≡ body.body
-  holds : Holds fetch new body
+  holds : HasStored fetch new body
   number_is : block.number ≡ number
   size_is : block.exponent ≡ fetch.exponent
 
@@ -110,7 +110,7 @@ first_fetched fetch old new (gave (owned.Conn c b) done) outer block text fetche
 first_fetched fetch old new (gave (owned.Close c) done) outer block text fetched = absurd fetched
 first_fetched fetch old new (took e t) outer block text fetched = absurd fetched
 
-later_fetched : (fetch : Fetch) (number : ℕ) (old new : Blocks) (inner outer : WireAct) (block : BlockOption) (text : List ℕ) (body : StoredBody) → IsFetched fetch number old inner outer new block text → 0 < number → Holds fetch old body
+later_fetched : (fetch : Fetch) (number : ℕ) (old new : Blocks) (inner outer : WireAct) (block : BlockOption) (text : List ℕ) (body : StoredBody) → IsFetched fetch number old inner outer new block text → 0 < number → HasStored fetch old body
     → Fetched fetch number new block text body
 later_fetched fetch number old new (gave (owned.To to leaves) done) (gave (owned.To peer bytes) was) block text body fetched above holds =
     let reply = fetched.reply in
@@ -156,7 +156,7 @@ more_step fetch number new block text body f =
     ap (λ whole. follows whole block) f.text_is ∙ ap (λ n. nat_lt (n * block_size block.exponent + block_size block.exponent) (length body.body)) f.number_is
     ∙ ap (λ e. nat_lt (number * block_size e + block_size e) (length body.body)) f.size_is ∙ ap (λ k. nat_lt k (length body.body)) (sym (next_start number (block_size fetch.exponent)))
 
-rest_joins : (fetch : Fetch) (number : ℕ) (more : Bool) (old : Blocks) (inners outers : List Timed) (parts : List (List ℕ)) (body : StoredBody) → FetchesRest fetch number more old inners outers parts → 0 < number → Holds fetch old body
+rest_joins : (fetch : Fetch) (number : ℕ) (more : Bool) (old : Blocks) (inners outers : List Timed) (parts : List (List ℕ)) (body : StoredBody) → FetchesRest fetch number more old inners outers parts → 0 < number → HasStored fetch old body
     → more ≡ nat_lt (number * block_size fetch.exponent) (length body.body) → concat parts ≡ drop (number * block_size fetch.exponent) body.body
 rest_joins fetch number more old [] [] parts body rest above holds more_is =
     ap concat rest.1 ∙ sym (drop_past (number * block_size fetch.exponent) body.body (ltb-false _ _ (sym more_is ∙ rest.0)))

@@ -13,16 +13,16 @@ other_sends old peer bytes m asked one awaits it_is_not = inr (other, refl, refl
         let same : asked ≡ another = ap (λ o. unwrap_or o asked) (sym awaits ∙ awaits_other) in
         subst (λ a. is_reply a peer message ≡ false) same (subst (λ n. is_reply asked peer n ≡ false) (one message is spells) it_is_not)
 
-pub reply_sends : (old : Blocks) (peer : ℕ) (bytes held : List ℕ) (written : Bool) (m : CoapMessage) (asked : Asked) (stored now : List StoredBody) → IsMessage m → bytes ≡ spelling m → old.awaited ≡ Some asked → is_reply asked peer m ≡ true → old.stored ≡ stored
-    → IsAnswered (answer_of stored asked m) asked m stored (if written then held else spelling m) now → Sends old peer bytes (if written then held else bytes) (record { awaited = None; stored = now })
-reply_sends old peer bytes held written m asked stored now is spells awaits reply stored_is answered = inl (record {
+pub reply_sends : (old : Blocks) (peer : ℕ) (bytes filled : List ℕ) (written : Bool) (m : CoapMessage) (asked : Asked) (stored now : List StoredBody) → IsMessage m → bytes ≡ spelling m → old.awaited ≡ Some asked → is_reply asked peer m ≡ true → old.stored ≡ stored
+    → IsAnswered (answer_of stored asked m) asked m stored (if written then filled else spelling m) now → Sends old peer bytes (if written then filled else bytes) (record { awaited = None; stored = now })
+reply_sends old peer bytes filled written m asked stored now is spells awaits reply stored_is answered = inl (record {
   message = m;
   asked = asked;
   is = is;
   spells = spells;
   awaited = awaits;
   reply = reply;
-  answered = subst (λ all. IsAnswered (answer_of all asked m) asked m all (if written then held else bytes) now) (sym stored_is)
-      (subst (λ text. IsAnswered (answer_of stored asked m) asked m stored (if written then held else text) now) (sym spells) answered);
+  answered = subst (λ all. IsAnswered (answer_of all asked m) asked m all (if written then filled else bytes) now) (sym stored_is)
+      (subst (λ text. IsAnswered (answer_of stored asked m) asked m stored (if written then filled else text) now) (sym spells) answered);
   over = refl;
 })

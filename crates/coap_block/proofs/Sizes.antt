@@ -8,16 +8,16 @@ use Rattle.coap_block.specs.declared.spelling.Which.TheVariants as which
 use Rattle.coap_block.specs.Spelling.{is_among, among}
 
 -- the first of the options that are still to be written fits
-pub first_fits : (held text : List ℕ) (previous most : ℕ) (o : CoapOption) (os chosen : List CoapOption) → chosen ≡ o ∷ os → held ++ options_bytes previous chosen ≡ text → length text ≤ most
-    → length held + length (option_bytes previous o) ≤ most
-first_fits held text previous most o os chosen are is fits =
-    let whole : length held + length (options_bytes previous (o ∷ os)) ≡ length text
-    = sym (length-append held (options_bytes previous (o ∷ os))) ∙ ap (λ all. length (held ++ options_bytes previous all)) (sym are) ∙ ap length is in
+pub first_fits : (filled text : List ℕ) (previous most : ℕ) (o : CoapOption) (os chosen : List CoapOption) → chosen ≡ o ∷ os → filled ++ options_bytes previous chosen ≡ text → length text ≤ most
+    → length filled + length (option_bytes previous o) ≤ most
+first_fits filled text previous most o os chosen are is fits =
+    let whole : length filled + length (options_bytes previous (o ∷ os)) ≡ length text
+    = sym (length-append filled (options_bytes previous (o ∷ os))) ∙ ap (λ all. length (filled ++ options_bytes previous all)) (sym are) ∙ ap length is in
     let parts = length-append (option_bytes previous o) (options_bytes o.number os) in
     omega (arith, whole, parts)
 
-pub together_fit : (held text : List ℕ) (most : ℕ) → length held + length text ≤ most → length (held ++ text) ≤ most
-together_fit held text most fits = omega (arith, length-append held text, fits)
+pub together_fit : (filled text : List ℕ) (most : ℕ) → length filled + length text ≤ most → length (filled ++ text) ≤ most
+together_fit filled text most fits = omega (arith, length-append filled text, fits)
 
 -- ---- options that are left out make none longer
 

@@ -3,5 +3,5 @@ use Rattle.std.specs.Prelude.{ℕ, List}
 
 -- the bytes that were written, and the most that there can be
 pub record Written : Type 0 where
-  pub held : List ℕ
+  pub filled : List ℕ
   pub most : ℕ

@@ -43,7 +43,7 @@ fn await_reply(
 ) -> Option<Awaiting>
     requires size { length (spelling message.now) ≤ request.old.most }
     requires block { ForSome block IsBlock }
-    ensures awaits { option_map (asked_with request.new.held) result ≡ Some (asked_for peer message.now block) }
+    ensures awaits { option_map (asked_with request.new.filled) result ≡ Some (asked_for peer message.now block) }
     ensures block { AsksBlock result }
     ensures most { request.new.most ≡ request.old.most }
 {
@@ -66,8 +66,8 @@ pub fn see_message(
 ) -> (Option<Awaiting>, bool)
     requires room { length (spelling message.now) ≤ room.old.most }
     requires request { length (spelling message.now) ≤ request.old.most }
-    ensures seen { spelling (seen_of message.now) ≡ (if result.1 then room.new.held else spelling message.now) }
-    ensures awaits { option_map (asked_with request.new.held) result.0 ≡ awaited_by peer message.now }
+    ensures seen { spelling (seen_of message.now) ≡ (if result.1 then room.new.filled else spelling message.now) }
+    ensures awaits { option_map (asked_with request.new.filled) result.0 ≡ awaited_by peer message.now }
     ensures block { AsksBlock result.0 }
     ensures room { room.new.most ≡ room.old.most }
     ensures request { request.new.most ≡ request.old.most }

@@ -55,9 +55,9 @@ fn follows(body: &[u8], block: &BlockOption) -> bool
 /// Writes the options of a message with a Block2 among them.
 fn put_with_block(room: &mut Room, message: &Message<'_>, block: &BlockOption)
     requires is { IsBlock block.now }
-    requires room { length room.old.held + 3 * length (options_bytes 0 message.now.options) + 6 ≤ room.old.most }
+    requires room { length room.old.filled + 3 * length (options_bytes 0 message.now.options) + 6 ≤ room.old.most }
     ensures { room.new ≡ record room.old {
-      held = room.old.held
+      filled = room.old.filled
           ++ options_bytes 0 (with_block message.now.options block.now);
     } }
 {
@@ -75,7 +75,7 @@ pub fn write_cut(room: &mut Room, message: &Message<'_>, block: &BlockOption, bo
     requires size { block.now.exponent < 7 }
     requires head { head_size message.now ≤ 1024 }
     requires room { room.old.most ≡ 4096 }
-    ensures { room.new ≡ record room.old { held = spelling (cut_to message.now block.now body.now) } }
+    ensures { room.new ≡ record room.old { filled = spelling (cut_to message.now block.now body.now) } }
 {
     let answered = BlockOption {
         number: block.number,
@@ -93,7 +93,7 @@ pub fn write_plain(room: &mut Room, message: &Message<'_>, code: u8, text: &[u8]
     requires text { length text.now ≤ 28 }
     requires head { head_size message.now ≤ 1024 }
     requires room { room.old.most ≡ 4096 }
-    ensures { room.new ≡ record room.old { held = spelling (record message.now { code = code; options = []; payload = text.now }) } }
+    ensures { room.new ≡ record room.old { filled = spelling (record message.now { code = code; options = []; payload = text.now }) } }
 {
     room.clear();
     put_head(room, message, code);
@@ -103,7 +103,7 @@ pub fn write_plain(room: &mut Room, message: &Message<'_>, code: u8, text: &[u8]
 /// Writes a message without its Block2.
 pub fn write_without_block(room: &mut Room, message: &Message<'_>)
     requires size { length (spelling message.now) ≤ room.old.most }
-    ensures { room.new ≡ record room.old { held = spelling (record message.now { options = among which.ButBlock message.now.options }) } }
+    ensures { room.new ≡ record room.old { filled = spelling (record message.now { options = among which.ButBlock message.now.options }) } }
 {
     room.clear();
     put_head(room, message, message.code());
@@ -115,7 +115,7 @@ pub fn write_without_block(room: &mut Room, message: &Message<'_>)
 /// Writes the path and the query of a message, spelled as options.
 pub fn write_request(room: &mut Room, message: &Message<'_>)
     requires size { length (spelling message.now) ≤ room.old.most }
-    ensures { room.new ≡ record room.old { held = options_bytes 0 (among which.PathAndQuery message.now.options) } }
+    ensures { room.new ≡ record room.old { filled = options_bytes 0 (among which.PathAndQuery message.now.options) } }
 {
     room.clear();
     let mut options = message.options();

@@ -35,10 +35,10 @@ impl Model for Cutting {
 
     ghost view = { λ cutting. record {
       blocks = record {
-        awaited = option_map (asked_with cutting.request.held) cutting.awaited;
+        awaited = option_map (asked_with cutting.request.filled) cutting.awaited;
         stored = cutting.stored.items;
       };
-      written = cutting.room.held;
+      written = cutting.room.filled;
     } };
 
     ghost invariant = { λ cutting. (cutting.room.most ≡ 4096) × (cutting.request.most ≡ 4096) × AsksBlock cutting.awaited × (length cutting.stored.items ≤ 64) };

@@ -104,7 +104,7 @@ fn answer_first(
     requires few { length stored.old.items ≤ MAX_STORED }
     requires room { room.old.most ≡ 4096 }
     ensures answered { IsAnswered (first block.now) (asked_with request.now awaited.now) message.now
-        stored.old.items room.new.held stored.new.items }
+        stored.old.items room.new.filled stored.new.items }
     ensures few { length stored.new.items ≤ MAX_STORED }
     ensures most { room.new.most ≡ room.old.most }
 {
@@ -121,7 +121,7 @@ fn answer_later(room: &mut Room, message: &Message<'_>, block: &BlockOption, bod
     requires head { head_size message.now ≤ MOST_WHOLE }
     requires room { room.old.most ≡ 4096 }
     ensures answered { (asked : Asked) (stored : List StoredBody)
-        → IsAnswered (later_of block.now body.now) asked message.now stored room.new.held stored }
+        → IsAnswered (later_of block.now body.now) asked message.now stored room.new.filled stored }
     ensures most { room.new.most ≡ room.old.most }
 {
     if begins_within(body, block) {
@@ -146,7 +146,7 @@ fn answer_block(
     requires room { room.old.most ≡ 4096 }
     ensures answered { let asked = asked_with request.now awaited.now in
         let body = body_or (stored_for stored.old.items asked) message.now.payload in
-        IsAnswered (block_answer block.now body) asked message.now stored.old.items room.new.held stored.new.items }
+        IsAnswered (block_answer block.now body) asked message.now stored.old.items room.new.filled stored.new.items }
     ensures few { length stored.new.items ≤ MAX_STORED }
     ensures most { room.new.most ≡ room.old.most }
 {
@@ -181,7 +181,7 @@ pub fn answer_reply(
     requires room { room.old.most ≡ 4096 }
     ensures answered { let asked = asked_with request.now awaited.now in
         IsAnswered (answer_of stored.old.items asked message.now) asked message.now stored.old.items
-        (if result then room.new.held else spelling message.now) stored.new.items }
+        (if result then room.new.filled else spelling message.now) stored.new.items }
     ensures few { length stored.new.items ≤ MAX_STORED }
     ensures most { room.new.most ≡ room.old.most }
 {

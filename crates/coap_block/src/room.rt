@@ -17,7 +17,7 @@ impl Model for Room {
 
     ghost Value = { Written };
 
-    ghost view = { λ room. record { held = room.bytes.items; most = room.most } };
+    ghost view = { λ room. record { filled = room.bytes.items; most = room.most } };
 
     ghost invariant = { λ room. room.most ≤ vec_capacity room.bytes };
 }
@@ -25,7 +25,7 @@ impl Model for Room {
 impl Room {
     /// An empty room for so many bytes.
     pub fn new(alloc: Global, most: usize) -> Result<Room, NoMemory>
-        ensures { IfOk result (λ room. room ≡ record { held = []; most = most }) }
+        ensures { IfOk result (λ room. room ≡ record { filled = []; most = most }) }
     {
         let bytes = Vec::with_capacity(alloc, most)?;
         Ok(Room { bytes, most })
@@ -33,22 +33,22 @@ impl Room {
 
     /// What was written.
     pub fn bytes(&self) -> &[u8]
-        ensures { result.now ≡ self.now.held }
+        ensures { result.now ≡ self.now.filled }
     {
         self.bytes.as_slice()
     }
 
     /// Begins anew.
     pub fn clear(&mut self)
-        ensures { self.new ≡ record self.old { held = [] } }
+        ensures { self.new ≡ record self.old { filled = [] } }
     {
         self.bytes.clear();
     }
 
     /// Writes the bytes behind the others.
     pub fn put(&mut self, bytes: &[u8])
-        requires { length self.old.held + length bytes.now ≤ self.old.most }
-        ensures { self.new ≡ record self.old { held = self.old.held ++ bytes.now } }
+        requires { length self.old.filled + length bytes.now ≤ self.old.most }
+        ensures { self.new ≡ record self.old { filled = self.old.filled ++ bytes.now } }
     {
         if self.bytes.extend_from_slice(bytes).is_err() {
             unreachable!();

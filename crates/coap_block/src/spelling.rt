@@ -52,8 +52,8 @@ fn nibble_of(number: usize) -> u8
 
 fn put_extension(room: &mut Room, number: usize)
     requires bound { number ≤ 65804 }
-    requires room { length room.old.held + length (extension number) ≤ room.old.most }
-    ensures { room.new ≡ record room.old { held = room.old.held ++ extension number } }
+    requires room { length room.old.filled + length (extension number) ≤ room.old.most }
+    ensures { room.new ≡ record room.old { filled = room.old.filled ++ extension number } }
 {
     if number < 13 {
         room.put(&[]);
@@ -68,10 +68,10 @@ fn put_extension(room: &mut Room, number: usize)
 pub fn put_option(room: &mut Room, previous: u16, number: u16, value: &[u8])
     requires rises { previous ≤ number }
     requires size { length value.now ≤ 65804 }
-    requires room { length room.old.held + length (option_bytes previous (record { number = number; value = value.now }))
+    requires room { length room.old.filled + length (option_bytes previous (record { number = number; value = value.now }))
         ≤ room.old.most }
     ensures { room.new ≡ record room.old {
-      held = room.old.held
+      filled = room.old.filled
           ++ option_bytes previous (record { number = number; value = value.now });
     } }
 {
@@ -85,9 +85,9 @@ pub fn put_option(room: &mut Room, previous: u16, number: u16, value: &[u8])
 /// Writes those of the options, behind one with the number `previous`, and answers the number of the last one.
 pub fn put_options(room: &mut Room, previous: u16, options: &mut Options<'_>, which: Which) -> u16
     requires are { AreOptions previous (among which options.old) }
-    requires room { length room.old.held + length (options_bytes previous (among which options.old)) ≤ room.old.most }
+    requires room { length room.old.filled + length (options_bytes previous (among which options.old)) ≤ room.old.most }
     ensures written { room.new ≡ record room.old {
-      held = room.old.held
+      filled = room.old.filled
           ++ options_bytes previous (among which options.old);
     } }
     ensures last { result ≡ last_number previous (among which options.old) }
@@ -104,8 +104,8 @@ pub fn put_options(room: &mut Room, previous: u16, options: &mut Options<'_>, wh
 
 /// Writes what stands in front of the options of a message, with this code.
 pub fn put_head(room: &mut Room, message: &Message<'_>, code: u8)
-    requires { length room.old.held + length (head_of message.now) ≤ room.old.most }
-    ensures { room.new ≡ record room.old { held = room.old.held ++ head_of (record message.now { code = code }) } }
+    requires { length room.old.filled + length (head_of message.now) ≤ room.old.most }
+    ensures { room.new ≡ record room.old { filled = room.old.filled ++ head_of (record message.now { code = code }) } }
 {
     let token = message.token();
     let [high, low] = message.id().to_be_bytes();
@@ -133,8 +133,8 @@ fn kind_bits(kind: Kind) -> u8
 
 /// Writes a payload behind its marker, or nothing where it has no bytes.
 pub fn put_payload(room: &mut Room, payload: &[u8])
-    requires { length room.old.held + length (payload_bytes payload.now) ≤ room.old.most }
-    ensures { room.new ≡ record room.old { held = room.old.held ++ payload_bytes payload.now } }
+    requires { length room.old.filled + length (payload_bytes payload.now) ≤ room.old.most }
+    ensures { room.new ≡ record room.old { filled = room.old.filled ++ payload_bytes payload.now } }
 {
     if !payload.is_empty() {
         room.put(&[0xff]);

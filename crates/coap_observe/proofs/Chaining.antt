@@ -14,7 +14,7 @@ use Rattle.linked_orders.proofs.Linking.{each_both, each_two, each_weaker}
 use Rattle.linked_orders.proofs.Ringing.{distinct_last}
 use Rattle.coap_observe.specs.Chains.{ChainValue, ChainsValue, no_chain, chain_at, is_chain_of, keys_in, room_in, is_pair_of, room_for, empty_chains, chained, one_chained, chain_left, one_left, IsNowhere, AreWithin, AreChained, HaveRoom, SameRoom}
 use Rattle.coap_observe.specs.Observed.{ObservedValue}
-use Rattle.coap_observe.specs.Rolls.{Row, one_of, is_key, keys_of, observed_of, has_key, one_at, without_key, with_key, peer_of, is_row_of, own_keys}
+use Rattle.coap_observe.specs.Rolls.{Member, one_of, is_key, keys_of, observed_of, has_key, one_at, without_key, with_key, peer_of, is_member_of, own_keys}
 use Rattle.coap_observe.proofs.Keying.{keys_last, keys_less, keys_with, own_last, own_less, own_other, own_with}
 use Rattle.coap_observe.proofs.Rolling.{distinct_without}
 
@@ -130,64 +130,64 @@ nothing_more : (ys : List ℕ) → ys ++ [] ≡ ys
 nothing_more [] = refl
 nothing_more (y ∷ ys) = ap (λ zs. y ∷ zs) (nothing_more ys)
 
-off_keys : (key : ℕ) (rows : List Row) → has_key key rows ≡ false → Apart key (keys_of rows)
+off_keys : (key : ℕ) (members : List Member) → has_key key members ≡ false → Apart key (keys_of members)
 off_keys key [] none = record {}
-off_keys key (r ∷ rows) none = by_test (r.0 == key) refl none (off_keys key rows)
+off_keys key (r ∷ members) none = by_test (r.0 == key) refl none (off_keys key members)
   where
-    by_test : (b : Bool) → (r.0 == key) ≡ b → b || has_key key rows ≡ false → (has_key key rows ≡ false → Apart key (keys_of rows)) → Apart key (keys_of (r ∷ rows))
+    by_test : (b : Bool) → (r.0 == key) ≡ b → b || has_key key members ≡ false → (has_key key members ≡ false → Apart key (keys_of members)) → Apart key (keys_of (r ∷ members))
     by_test true is none rest = absurd (false≢true (sym none))
     by_test false is none rest = (λ same. absurd (false≢true (sym is ∙ eq-eqb r.0 key same)), rest none)
 
 -- ---- all keys are those of observers
 
-pub has_more : (k : ℕ) (rows more : List Row) → has_key k rows ≡ true → has_key k (rows ++ more) ≡ true
+pub has_more : (k : ℕ) (members more : List Member) → has_key k members ≡ true → has_key k (members ++ more) ≡ true
 has_more k [] more has = absurd (false≢true has)
-has_more k (r ∷ rows) more has = by_test (r.0 == k) has (has_more k rows more)
+has_more k (r ∷ members) more has = by_test (r.0 == k) has (has_more k members more)
   where
-    by_test : (b : Bool) → b || has_key k rows ≡ true → (has_key k rows ≡ true → has_key k (rows ++ more) ≡ true) → b || has_key k (rows ++ more) ≡ true
+    by_test : (b : Bool) → b || has_key k members ≡ true → (has_key k members ≡ true → has_key k (members ++ more) ≡ true) → b || has_key k (members ++ more) ≡ true
     by_test true has rest = refl
     by_test false has rest = rest has
 
-has_last : (key : ℕ) (o : ObservedValue) (rows : List Row) → has_key key (rows ++ (key, o) ∷ []) ≡ true
+has_last : (key : ℕ) (o : ObservedValue) (members : List Member) → has_key key (members ++ (key, o) ∷ []) ≡ true
 has_last key o [] = ap (λ b. b || false) (eq-eqb key key refl)
-has_last key o (r ∷ rows) = by_test (r.0 == key) (has_last key o rows)
+has_last key o (r ∷ members) = by_test (r.0 == key) (has_last key o members)
   where
-    by_test : (b : Bool) → has_key key (rows ++ (key, o) ∷ []) ≡ true → b || has_key key (rows ++ (key, o) ∷ []) ≡ true
+    by_test : (b : Bool) → has_key key (members ++ (key, o) ∷ []) ≡ true → b || has_key key (members ++ (key, o) ∷ []) ≡ true
     by_test true rest = refl
     by_test false rest = rest
 
-has_with : (k key : ℕ) (becomes : ObservedValue → ObservedValue) (rows : List Row) → has_key k (with_key key becomes rows) ≡ has_key k rows
+has_with : (k key : ℕ) (becomes : ObservedValue → ObservedValue) (members : List Member) → has_key k (with_key key becomes members) ≡ has_key k members
 has_with k key becomes [] = refl
-has_with k key becomes (r ∷ rows) = by_test (r.0 == key) ∙ ap (λ b. (r.0 == k) || b) (has_with k key becomes rows)
+has_with k key becomes (r ∷ members) = by_test (r.0 == key) ∙ ap (λ b. (r.0 == k) || b) (has_with k key becomes members)
   where
-    by_test : (b : Bool) → ((cond b (r.0, becomes r.1) r).0 == k) || has_key k (with_key key becomes rows) ≡ (r.0 == k) || has_key k (with_key key becomes rows)
+    by_test : (b : Bool) → ((cond b (r.0, becomes r.1) r).0 == k) || has_key k (with_key key becomes members) ≡ (r.0 == k) || has_key k (with_key key becomes members)
     by_test true = refl
     by_test false = refl
 
-has_still : (k key : ℕ) (rows : List Row) → k ≢ key → has_key k rows ≡ true → has_key k (without_key key rows) ≡ true
+has_still : (k key : ℕ) (members : List Member) → k ≢ key → has_key k members ≡ true → has_key k (without_key key members) ≡ true
 has_still k key [] apart has = absurd (false≢true has)
-has_still k key (r ∷ rows) apart has = by_test (r.0 == key) refl (r.0 == k) refl has (has_still k key rows apart)
+has_still k key (r ∷ members) apart has = by_test (r.0 == key) refl (r.0 == k) refl has (has_still k key members apart)
   where
-    by_test : (b : Bool) → (r.0 == key) ≡ b → (s : Bool) → (r.0 == k) ≡ s → s || has_key k rows ≡ true → (has_key k rows ≡ true → has_key k (without_key key rows) ≡ true)
-        → has_key k (cond (not b) (r ∷ without_key key rows) (without_key key rows)) ≡ true
+    by_test : (b : Bool) → (r.0 == key) ≡ b → (s : Bool) → (r.0 == k) ≡ s → s || has_key k members ≡ true → (has_key k members ≡ true → has_key k (without_key key members) ≡ true)
+        → has_key k (cond (not b) (r ∷ without_key key members) (without_key key members)) ≡ true
     by_test true is true same has rest = absurd (apart (sym (eqb-true r.0 k same) ∙ eqb-true r.0 key is))
     by_test true is false same has rest = rest has
-    by_test false is true same has rest = ap (λ b. b || has_key k (without_key key rows)) same
-    by_test false is false same has rest = ap (λ b. b || has_key k (without_key key rows)) same ∙ rest has
+    by_test false is true same has rest = ap (λ b. b || has_key k (without_key key members)) same
+    by_test false is false same has rest = ap (λ b. b || has_key k (without_key key members)) same ∙ rest has
 
-within_rows : (rows new : List Row) (cs : List ChainValue) → ((k : ℕ) → has_key k rows ≡ true → has_key k new ≡ true) → AreWithin rows cs → AreWithin new cs
-within_rows rows new [] more within = record {}
-within_rows rows new (c ∷ cs) more within = (
-  each_weaker (λ k. has_key k rows ≡ true) (λ k. has_key k new ≡ true) c.keys more within.0,
-  within_rows rows new cs more within.1,
+within_members : (members new : List Member) (cs : List ChainValue) → ((k : ℕ) → has_key k members ≡ true → has_key k new ≡ true) → AreWithin members cs → AreWithin new cs
+within_members members new [] more within = record {}
+within_members members new (c ∷ cs) more within = (
+  each_weaker (λ k. has_key k members ≡ true) (λ k. has_key k new ≡ true) c.keys more within.0,
+  within_members members new cs more within.1,
 )
 
-within_chained : (rows : List Row) (peer key : ℕ) (cs : List ChainValue) → has_key key rows ≡ true → AreWithin rows cs → AreWithin rows (one_chained peer key cs)
-within_chained rows peer key [] has within = record {}
-within_chained rows peer key (c ∷ cs) has within = by_test (is_chain_of peer c) (within_chained rows peer key cs has within.1)
+within_chained : (members : List Member) (peer key : ℕ) (cs : List ChainValue) → has_key key members ≡ true → AreWithin members cs → AreWithin members (one_chained peer key cs)
+within_chained members peer key [] has within = record {}
+within_chained members peer key (c ∷ cs) has within = by_test (is_chain_of peer c) (within_chained members peer key cs has within.1)
   where
-    by_test : (b : Bool) → AreWithin rows (one_chained peer key cs) → AreWithin rows (cond b (chained key c ∷ cs) (c ∷ one_chained peer key cs))
-    by_test true rest = (each_both (λ k. has_key k rows ≡ true) c.keys (key ∷ []) within.0 (has, record {}), within.1)
+    by_test : (b : Bool) → AreWithin members (one_chained peer key cs) → AreWithin members (cond b (chained key c ∷ cs) (c ∷ one_chained peer key cs))
+    by_test true rest = (each_both (λ k. has_key k members ≡ true) c.keys (key ∷ []) within.0 (has, record {}), within.1)
     by_test false rest = (within.0, rest)
 
 each_without : (P : ℕ → Type 0) (key : ℕ) (xs : List ℕ) → Each P xs → Each P (without key xs)
@@ -198,52 +198,52 @@ each_without P key (x ∷ xs) each = by_test (x == key) (each_without P key xs e
     by_test true rest = rest
     by_test false rest = (each.0, rest)
 
-within_left : (rows : List Row) (peer key : ℕ) (cs : List ChainValue) → AreWithin rows cs → AreWithin rows (one_left peer key cs)
-within_left rows peer key [] within = record {}
-within_left rows peer key (c ∷ cs) within = by_test (is_chain_of peer c) (within_left rows peer key cs within.1)
+within_left : (members : List Member) (peer key : ℕ) (cs : List ChainValue) → AreWithin members cs → AreWithin members (one_left peer key cs)
+within_left members peer key [] within = record {}
+within_left members peer key (c ∷ cs) within = by_test (is_chain_of peer c) (within_left members peer key cs within.1)
   where
-    by_test : (b : Bool) → AreWithin rows (one_left peer key cs) → AreWithin rows (cond b (chain_left key c ∷ cs) (c ∷ one_left peer key cs))
-    by_test true rest = (each_without (λ k. has_key k rows ≡ true) key c.keys within.0, within.1)
+    by_test : (b : Bool) → AreWithin members (one_left peer key cs) → AreWithin members (cond b (chain_left key c ∷ cs) (c ∷ one_left peer key cs))
+    by_test true rest = (each_without (λ k. has_key k members ≡ true) key c.keys within.0, within.1)
     by_test false rest = (within.0, rest)
 
-within_less : (key : ℕ) (rows : List Row) (cs : List ChainValue) → AreWithin rows cs → IsNowhere key cs → AreWithin (without_key key rows) cs
-within_less key rows [] within gone = record {}
-within_less key rows (c ∷ cs) within gone = (
-  each_two (λ k. has_key k rows ≡ true) (λ k. k ≢ key) (λ k. has_key k (without_key key rows) ≡ true) c.keys (λ k has apart. has_still k key rows apart has) within.0 gone.0,
-  within_less key rows cs within.1 gone.1,
+within_less : (key : ℕ) (members : List Member) (cs : List ChainValue) → AreWithin members cs → IsNowhere key cs → AreWithin (without_key key members) cs
+within_less key members [] within gone = record {}
+within_less key members (c ∷ cs) within gone = (
+  each_two (λ k. has_key k members ≡ true) (λ k. k ≢ key) (λ k. has_key k (without_key key members) ≡ true) c.keys (λ k has apart. has_still k key members apart has) within.0 gone.0,
+  within_less key members cs within.1 gone.1,
 )
 
 -- a key that no observer has is in no chain
-pub nowhere_new : (key : ℕ) (rows : List Row) (cs : List ChainValue) → has_key key rows ≡ false → AreWithin rows cs → IsNowhere key cs
-nowhere_new key rows [] none within = record {}
-nowhere_new key rows (c ∷ cs) none within = (
-  each_weaker (λ k. has_key k rows ≡ true) (λ k. k ≢ key) c.keys (λ k has same. false≢true (sym none ∙ ap (λ n. has_key n rows) (sym same) ∙ has)) within.0,
-  nowhere_new key rows cs none within.1,
+pub nowhere_new : (key : ℕ) (members : List Member) (cs : List ChainValue) → has_key key members ≡ false → AreWithin members cs → IsNowhere key cs
+nowhere_new key members [] none within = record {}
+nowhere_new key members (c ∷ cs) none within = (
+  each_weaker (λ k. has_key k members ≡ true) (λ k. k ≢ key) c.keys (λ k has same. false≢true (sym none ∙ ap (λ n. has_key n members) (sym same) ∙ has)) within.0,
+  nowhere_new key members cs none within.1,
 )
 
 -- the key of a peer's observer is one of its keys
-pub own_has : (peer key : ℕ) (one : ObservedValue) (rows : List Row) → one_at key rows ≡ Some one → (peer_of one == peer) ≡ true → has_slot key (own_keys peer rows) ≡ true
+pub own_has : (peer key : ℕ) (one : ObservedValue) (members : List Member) → one_at key members ≡ Some one → (peer_of one == peer) ≡ true → has_slot key (own_keys peer members) ≡ true
 own_has peer key one [] there of = cc there
-own_has peer key one (r ∷ rows) there of = by_test (r.0 == key) refl there (is_row_of peer r) refl (λ is. own_has peer key one rows is of)
+own_has peer key one (r ∷ members) there of = by_test (r.0 == key) refl there (is_member_of peer r) refl (λ is. own_has peer key one members is of)
   where
-    by_test : (b : Bool) → (r.0 == key) ≡ b → option_map one_of (cond b (Some r) (find (is_key key) rows)) ≡ Some one → (s : Bool) → is_row_of peer r ≡ s
-        → (one_at key rows ≡ Some one → has_slot key (own_keys peer rows) ≡ true)
-        → has_slot key (keys_of (cond s (r ∷ filter (is_row_of peer) rows) (filter (is_row_of peer) rows))) ≡ true
-    by_test true is there true own rest = ap (λ b. b || has_slot key (own_keys peer rows)) is
+    by_test : (b : Bool) → (r.0 == key) ≡ b → option_map one_of (cond b (Some r) (find (is_key key) members)) ≡ Some one → (s : Bool) → is_member_of peer r ≡ s
+        → (one_at key members ≡ Some one → has_slot key (own_keys peer members) ≡ true)
+        → has_slot key (keys_of (cond s (r ∷ filter (is_member_of peer) members) (filter (is_member_of peer) members))) ≡ true
+    by_test true is there true own rest = ap (λ b. b || has_slot key (own_keys peer members)) is
     by_test true is there false own rest = absurd (false≢true (sym own ∙ ap (λ o. peer_of o == peer) (one_there (one_of r) one there) ∙ of))
-    by_test false is there true own rest = ap (λ b. b || has_slot key (own_keys peer rows)) is ∙ rest there
+    by_test false is there true own rest = ap (λ b. b || has_slot key (own_keys peer members)) is ∙ rest there
     by_test false is there false own rest = rest there
 
-pub chained_last : (chains : List ChainValue) (rows : List Row) (key : ℕ) (o : ObservedValue) → has_key key rows ≡ false → 0 < room_in (peer_of o) chains → AreChained chains rows
-    → AreChained (one_chained (peer_of o) key chains) (rows ++ (key, o) ∷ [])
-chained_last chains rows key o new some are = record {
-  apart = subst Distinct (sym (keys_last (key, o) rows)) (distinct_last key (keys_of rows) are.apart (off_keys key rows new));
+pub chained_last : (chains : List ChainValue) (members : List Member) (key : ℕ) (o : ObservedValue) → has_key key members ≡ false → 0 < room_in (peer_of o) chains → AreChained chains members
+    → AreChained (one_chained (peer_of o) key chains) (members ++ (key, o) ∷ [])
+chained_last chains members key o new some are = record {
+  apart = subst Distinct (sym (keys_last (key, o) members)) (distinct_last key (keys_of members) are.apart (off_keys key members new));
   own = λ peer. own_is peer;
-  within = within_chained (rows ++ (key, o) ∷ []) (peer_of o) key chains (has_last key o rows)
-      (within_rows rows (rows ++ (key, o) ∷ []) chains (λ k has. has_more k rows ((key, o) ∷ []) has) are.within);
+  within = within_chained (members ++ (key, o) ∷ []) (peer_of o) key chains (has_last key o members)
+      (within_members members (members ++ (key, o) ∷ []) chains (λ k has. has_more k members ((key, o) ∷ []) has) are.within);
 }
   where
-    own_is : (peer : ℕ) → keys_in peer (one_chained (peer_of o) key chains) ≡ own_keys peer (rows ++ (key, o) ∷ [])
+    own_is : (peer : ℕ) → keys_in peer (one_chained (peer_of o) key chains) ≡ own_keys peer (members ++ (key, o) ∷ [])
     own_is peer =
         elim (cases_Bool (peer_of o == peer)) [
           | inl is ↦
@@ -251,26 +251,26 @@ chained_last chains rows key o new some are = record {
               ap (λ p. keys_in p (one_chained (peer_of o) key chains)) (sym same)
               ∙ own_chained (peer_of o) key chains some
               ∙ ap (λ ks. ks ++ key ∷ []) (are.own (peer_of o))
-              ∙ ap (λ p. own_keys p rows ++ key ∷ []) same
-              ∙ ap (λ ks. own_keys peer rows ++ ks) (sym (cond-true (peer_of o == peer) (key ∷ []) [] is))
-              ∙ sym (own_last peer key o rows)
+              ∙ ap (λ p. own_keys p members ++ key ∷ []) same
+              ∙ ap (λ ks. own_keys peer members ++ ks) (sym (cond-true (peer_of o == peer) (key ∷ []) [] is))
+              ∙ sym (own_last peer key o members)
           | inr out ↦
               other_chained peer (peer_of o) key chains (λ same. false≢true (sym out ∙ eq-eqb (peer_of o) peer (sym same)))
               ∙ are.own peer
-              ∙ sym (nothing_more (own_keys peer rows))
-              ∙ ap (λ ks. own_keys peer rows ++ ks) (sym (cond-false (peer_of o == peer) (key ∷ []) [] out))
-              ∙ sym (own_last peer key o rows)
+              ∙ sym (nothing_more (own_keys peer members))
+              ∙ ap (λ ks. own_keys peer members ++ ks) (sym (cond-false (peer_of o == peer) (key ∷ []) [] out))
+              ∙ sym (own_last peer key o members)
         ]
 
-pub chained_less : (chains : List ChainValue) (rows : List Row) (key : ℕ) (one : ObservedValue) → one_at key rows ≡ Some one → AreChained chains rows
-    → IsNowhere key (one_left (peer_of one) key chains) → AreChained (one_left (peer_of one) key chains) (without_key key rows)
-chained_less chains rows key one there are gone = record {
-  apart = subst Distinct (sym (keys_less key rows)) (distinct_without key (keys_of rows) are.apart);
+pub chained_less : (chains : List ChainValue) (members : List Member) (key : ℕ) (one : ObservedValue) → one_at key members ≡ Some one → AreChained chains members
+    → IsNowhere key (one_left (peer_of one) key chains) → AreChained (one_left (peer_of one) key chains) (without_key key members)
+chained_less chains members key one there are gone = record {
+  apart = subst Distinct (sym (keys_less key members)) (distinct_without key (keys_of members) are.apart);
   own = λ peer. own_is peer;
-  within = within_less key rows (one_left (peer_of one) key chains) (within_left rows (peer_of one) key chains are.within) gone;
+  within = within_less key members (one_left (peer_of one) key chains) (within_left members (peer_of one) key chains are.within) gone;
 }
   where
-    own_is : (peer : ℕ) → keys_in peer (one_left (peer_of one) key chains) ≡ own_keys peer (without_key key rows)
+    own_is : (peer : ℕ) → keys_in peer (one_left (peer_of one) key chains) ≡ own_keys peer (without_key key members)
     own_is peer =
         elim (cases_Bool (peer_of one == peer)) [
           | inl is ↦
@@ -278,20 +278,20 @@ chained_less chains rows key one there are gone = record {
               ap (λ p. keys_in p (one_left (peer_of one) key chains)) (sym same)
               ∙ own_left (peer_of one) key chains
               ∙ ap (without key) (are.own (peer_of one))
-              ∙ ap (λ p. without key (own_keys p rows)) same
-              ∙ sym (own_less peer key rows)
+              ∙ ap (λ p. without key (own_keys p members)) same
+              ∙ sym (own_less peer key members)
           | inr out ↦
               other_left peer (peer_of one) key chains (λ same. false≢true (sym out ∙ eq-eqb (peer_of one) peer (sym same)))
               ∙ are.own peer
-              ∙ sym (own_other peer key one rows are.apart there out)
+              ∙ sym (own_other peer key one members are.apart there out)
         ]
 
-pub chained_with : (chains : List ChainValue) (rows : List Row) (key : ℕ) (becomes : ObservedValue → ObservedValue) (one : ObservedValue) → one_at key rows ≡ Some one
-    → peer_of (becomes one) ≡ peer_of one → AreChained chains rows → AreChained chains (with_key key becomes rows)
-chained_with chains rows key becomes one there same_peer are = record {
-  apart = subst Distinct (sym (keys_with key becomes rows)) are.apart;
-  own = λ peer. are.own peer ∙ sym (own_with peer key becomes one rows are.apart there same_peer);
-  within = within_rows rows (with_key key becomes rows) chains (λ k has. has_with k key becomes rows ∙ has) are.within;
+pub chained_with : (chains : List ChainValue) (members : List Member) (key : ℕ) (becomes : ObservedValue → ObservedValue) (one : ObservedValue) → one_at key members ≡ Some one
+    → peer_of (becomes one) ≡ peer_of one → AreChained chains members → AreChained chains (with_key key becomes members)
+chained_with chains members key becomes one there same_peer are = record {
+  apart = subst Distinct (sym (keys_with key becomes members)) are.apart;
+  own = λ peer. are.own peer ∙ sym (own_with peer key becomes one members are.apart there same_peer);
+  within = within_members members (with_key key becomes members) chains (λ k has. has_with k key becomes members ∙ has) are.within;
 }
 
 -- ---- at the beginning
@@ -356,12 +356,12 @@ same_room_then later first = record { limit = later.limit ∙ first.limit; room 
 
 -- ---- how many there are of a peer
 
-pub length_own : (peer : ℕ) (rows : List Row) → length (own_keys peer rows) ≡ tally (λ o. peer_of o == peer) (observed_of rows)
+pub length_own : (peer : ℕ) (members : List Member) → length (own_keys peer members) ≡ tally (λ o. peer_of o == peer) (observed_of members)
 length_own peer [] = refl
-length_own peer (r ∷ rows) = by_test (is_row_of peer r) (length_own peer rows)
+length_own peer (r ∷ members) = by_test (is_member_of peer r) (length_own peer members)
   where
-    by_test : (b : Bool) → length (own_keys peer rows) ≡ tally (λ o. peer_of o == peer) (observed_of rows)
-        → length (keys_of (cond b (r ∷ filter (is_row_of peer) rows) (filter (is_row_of peer) rows))) ≡ cond b 1 0 + tally (λ o. peer_of o == peer) (observed_of rows)
+    by_test : (b : Bool) → length (own_keys peer members) ≡ tally (λ o. peer_of o == peer) (observed_of members)
+        → length (keys_of (cond b (r ∷ filter (is_member_of peer) members) (filter (is_member_of peer) members))) ≡ cond b 1 0 + tally (λ o. peer_of o == peer) (observed_of members)
     by_test true rest = omega (arith, rest)
     by_test false rest = omega (arith, rest)
 

@@ -10,7 +10,7 @@ use Rattle.coap_observe.specs.declared.due_among.DueAmong.TheVariants.{Nobody, D
 use Rattle.coap_observe.specs.DueAmong.{includes_one}
 use Rattle.coap_observe.specs.Observed.{ObservedValue, is_of}
 use Rattle.coap_observe.specs.Observing.{NoneIsDue, has_one, AreOf}
-use Rattle.coap_observe.specs.Rolls.{Row, key_of, one_of, observed_of, first_key}
+use Rattle.coap_observe.specs.Rolls.{Member, key_of, one_of, observed_of, first_key}
 use Rattle.coap_observe.specs.Seen.{Lists}
 use Rattle.coap_observe.proofs.Firsts.{eq_turned}
 
@@ -32,12 +32,12 @@ some_of_anybody [] some = absurd (omega (arith, some))
 some_of_anybody (o ∷ os) some = refl
 
 -- one passes exactly where there is a first that does
-pub some_first : (test : ObservedValue → Bool) (rows : List Row) → is_some (first_key test rows) ≡ list_any test (observed_of rows)
+pub some_first : (test : ObservedValue → Bool) (members : List Member) → is_some (first_key test members) ≡ list_any test (observed_of members)
 some_first test [] = refl
-some_first test (r ∷ rows) = by_test (test (one_of r)) (some_first test rows)
+some_first test (r ∷ members) = by_test (test (one_of r)) (some_first test members)
   where
-    by_test : (b : Bool) → is_some (first_key test rows) ≡ list_any test (observed_of rows)
-        → is_some (option_map key_of (cond b (Some r) (find (λ row. test (one_of row)) rows))) ≡ b || list_any test (observed_of rows)
+    by_test : (b : Bool) → is_some (first_key test members) ≡ list_any test (observed_of members)
+        → is_some (option_map key_of (cond b (Some r) (find (λ member. test (one_of member)) members))) ≡ b || list_any test (observed_of members)
     by_test true rest = refl
     by_test false rest = rest
 

@@ -9,66 +9,66 @@ use Rattle.linked_orders.specs.Orders.{is_slot, has_slot, without}
 use Rattle.linked_orders.proofs.Linking.{each_both, each_two, each_weaker}
 use Rattle.linked_orders.proofs.Ringing.{apart_from, distinct_last}
 use Rattle.coap_observe.specs.Observed.{ObservedValue}
-use Rattle.coap_observe.specs.Rolls.{Row, key_of, one_of, keys_of, is_key, has_key, one_at, without_key, with_key, row_of, rows_of, AreThere}
+use Rattle.coap_observe.specs.Rolls.{Member, key_of, one_of, keys_of, is_key, has_key, one_at, without_key, with_key, member_of, members_of, AreThere}
 
 abbrev AllThere : (ℕ → Option ObservedValue) → List ℕ → Type 0
 AllThere at keys = Each (λ key. is_some (at key) ≡ true) keys
 
 -- ---- what the rows say
 
-pub keys_are : (at : ℕ → Option ObservedValue) (keys : List ℕ) → AllThere at keys → keys_of (rows_of at keys) ≡ keys
+pub keys_are : (at : ℕ → Option ObservedValue) (keys : List ℕ) → AllThere at keys → keys_of (members_of at keys) ≡ keys
 keys_are at [] there = refl
 keys_are at (k ∷ keys) there = by_one (at k) there.0 (keys_are at keys there.1)
   where
-    by_one : (o : Option ObservedValue) → is_some o ≡ true → keys_of (rows_of at keys) ≡ keys → keys_of (row_of k o ++ rows_of at keys) ≡ k ∷ keys
+    by_one : (o : Option ObservedValue) → is_some o ≡ true → keys_of (members_of at keys) ≡ keys → keys_of (member_of k o ++ members_of at keys) ≡ k ∷ keys
     by_one None is rest = absurd (false≢true is)
     by_one (Some one) is rest = ap (λ ks. k ∷ ks) rest
 
-pub length_rows : (at : ℕ → Option ObservedValue) (keys : List ℕ) → AllThere at keys → length (rows_of at keys) ≡ length keys
-length_rows at keys there = sym (length-map (rows_of at keys) key_of) ∙ ap length (keys_are at keys there)
+pub length_members : (at : ℕ → Option ObservedValue) (keys : List ℕ) → AllThere at keys → length (members_of at keys) ≡ length keys
+length_members at keys there = sym (length-map (members_of at keys) key_of) ∙ ap length (keys_are at keys there)
 
-pub has_rows : (at : ℕ → Option ObservedValue) (key : ℕ) (keys : List ℕ) → AllThere at keys → has_key key (rows_of at keys) ≡ has_slot key keys
-has_rows at key [] there = refl
-has_rows at key (k ∷ keys) there = by_one (at k) there.0 (has_rows at key keys there.1)
+pub has_members : (at : ℕ → Option ObservedValue) (key : ℕ) (keys : List ℕ) → AllThere at keys → has_key key (members_of at keys) ≡ has_slot key keys
+has_members at key [] there = refl
+has_members at key (k ∷ keys) there = by_one (at k) there.0 (has_members at key keys there.1)
   where
-    by_one : (o : Option ObservedValue) → is_some o ≡ true → has_key key (rows_of at keys) ≡ has_slot key keys → has_key key (row_of k o ++ rows_of at keys) ≡ is_slot key k || has_slot key keys
+    by_one : (o : Option ObservedValue) → is_some o ≡ true → has_key key (members_of at keys) ≡ has_slot key keys → has_key key (member_of k o ++ members_of at keys) ≡ is_slot key k || has_slot key keys
     by_one None is rest = absurd (false≢true is)
     by_one (Some one) is rest = ap (λ b. is_slot key k || b) rest
 
-found_among : (at : ℕ → Option ObservedValue) (key : ℕ) (keys : List ℕ) → AllThere at keys → one_at key (rows_of at keys) ≡ cond (has_slot key keys) (at key) None
+found_among : (at : ℕ → Option ObservedValue) (key : ℕ) (keys : List ℕ) → AllThere at keys → one_at key (members_of at keys) ≡ cond (has_slot key keys) (at key) None
 found_among at key [] there = refl
 found_among at key (k ∷ keys) there = by_one (at k) refl there.0 (found_among at key keys there.1)
   where
-    by_test : (b : Bool) (one : ObservedValue) → (k == key) ≡ b → at k ≡ Some one → one_at key (rows_of at keys) ≡ cond (has_slot key keys) (at key) None
-        → option_map one_of (cond b (Some (k, one)) (find (is_key key) (rows_of at keys))) ≡ cond (b || has_slot key keys) (at key) None
+    by_test : (b : Bool) (one : ObservedValue) → (k == key) ≡ b → at k ≡ Some one → one_at key (members_of at keys) ≡ cond (has_slot key keys) (at key) None
+        → option_map one_of (cond b (Some (k, one)) (find (is_key key) (members_of at keys))) ≡ cond (b || has_slot key keys) (at key) None
     by_test true one same is rest = sym is ∙ ap at (eqb-true k key same)
     by_test false one same is rest = rest
 
-    by_one : (o : Option ObservedValue) → at k ≡ o → is_some o ≡ true → one_at key (rows_of at keys) ≡ cond (has_slot key keys) (at key) None
-        → one_at key (row_of k o ++ rows_of at keys) ≡ cond (is_slot key k || has_slot key keys) (at key) None
+    by_one : (o : Option ObservedValue) → at k ≡ o → is_some o ≡ true → one_at key (members_of at keys) ≡ cond (has_slot key keys) (at key) None
+        → one_at key (member_of k o ++ members_of at keys) ≡ cond (is_slot key k || has_slot key keys) (at key) None
     by_one None is some rest = absurd (false≢true some)
     by_one (Some one) is some rest = by_test (k == key) one refl is rest
 
-pub found : (at : ℕ → Option ObservedValue) (key : ℕ) (keys : List ℕ) → AreThere at keys → one_at key (rows_of at keys) ≡ at key
+pub found : (at : ℕ → Option ObservedValue) (key : ℕ) (keys : List ℕ) → AreThere at keys → one_at key (members_of at keys) ≡ at key
 found at key keys kept = found_among at key keys kept.there ∙ by_test (has_slot key keys) refl
   where
     by_test : (b : Bool) → has_slot key keys ≡ b → cond b (at key) None ≡ at key
     by_test true is = refl
     by_test false is = sym (kept.nowhere key (apart_from key keys is))
 
-appended : (xs ys zs : List Row) → (xs ++ ys) ++ zs ≡ xs ++ (ys ++ zs)
+appended : (xs ys zs : List Member) → (xs ++ ys) ++ zs ≡ xs ++ (ys ++ zs)
 appended [] ys zs = refl
-appended (x ∷ xs) ys zs = ap (λ rows. x ∷ rows) (appended xs ys zs)
+appended (x ∷ xs) ys zs = ap (λ members. x ∷ members) (appended xs ys zs)
 
 -- ---- one more
 
-pub rows_last : (at new : ℕ → Option ObservedValue) (key : ℕ) (one : ObservedValue) (keys : List ℕ) → Apart key keys → new key ≡ Some one
-    → ((other : ℕ) → other ≢ key → new other ≡ at other) → rows_of new (keys ++ key ∷ []) ≡ rows_of at keys ++ (key, one) ∷ []
-rows_last at new key one [] apart is others = ap (λ o. row_of key o ++ []) is
-rows_last at new key one (k ∷ keys) apart is others =
-    ap (λ o. row_of k o ++ rows_of new (keys ++ key ∷ [])) (others k apart.0)
-    ∙ ap (λ rows. row_of k (at k) ++ rows) (rows_last at new key one keys apart.1 is others)
-    ∙ sym (appended (row_of k (at k)) (rows_of at keys) ((key, one) ∷ []))
+pub members_last : (at new : ℕ → Option ObservedValue) (key : ℕ) (one : ObservedValue) (keys : List ℕ) → Apart key keys → new key ≡ Some one
+    → ((other : ℕ) → other ≢ key → new other ≡ at other) → members_of new (keys ++ key ∷ []) ≡ members_of at keys ++ (key, one) ∷ []
+members_last at new key one [] apart is others = ap (λ o. member_of key o ++ []) is
+members_last at new key one (k ∷ keys) apart is others =
+    ap (λ o. member_of k o ++ members_of new (keys ++ key ∷ [])) (others k apart.0)
+    ∙ ap (λ members. member_of k (at k) ++ members) (members_last at new key one keys apart.1 is others)
+    ∙ sym (appended (member_of k (at k)) (members_of at keys) ((key, one) ∷ []))
 
 -- a slot without one is none of the keys
 pub off_keys : (at : ℕ → Option ObservedValue) (key : ℕ) (keys : List ℕ) → AllThere at keys → at key ≡ None → Apart key keys
@@ -101,21 +101,21 @@ pushed_there at new key one keys kept none is others =
 
 -- ---- one less
 
-pub rows_less : (at new : ℕ → Option ObservedValue) (key : ℕ) (keys : List ℕ) → ((other : ℕ) → other ≢ key → new other ≡ at other)
-    → rows_of new (without key keys) ≡ without_key key (rows_of at keys)
-rows_less at new key [] others = refl
-rows_less at new key (k ∷ keys) others = by_test (k == key) refl (at k) refl (rows_less at new key keys others)
+pub members_less : (at new : ℕ → Option ObservedValue) (key : ℕ) (keys : List ℕ) → ((other : ℕ) → other ≢ key → new other ≡ at other)
+    → members_of new (without key keys) ≡ without_key key (members_of at keys)
+members_less at new key [] others = refl
+members_less at new key (k ∷ keys) others = by_test (k == key) refl (at k) refl (members_less at new key keys others)
   where
-    by_test : (b : Bool) → (k == key) ≡ b → (o : Option ObservedValue) → at k ≡ o → rows_of new (without key keys) ≡ without_key key (rows_of at keys)
-        → rows_of new (cond (not b) (k ∷ without key keys) (without key keys)) ≡ without_key key (row_of k o ++ rows_of at keys)
+    by_test : (b : Bool) → (k == key) ≡ b → (o : Option ObservedValue) → at k ≡ o → members_of new (without key keys) ≡ without_key key (members_of at keys)
+        → members_of new (cond (not b) (k ∷ without key keys) (without key keys)) ≡ without_key key (member_of k o ++ members_of at keys)
     by_test true same None is rest = rest
-    by_test true same (Some one) is rest = rest ∙ sym (ap (λ b. cond (not b) ((k, one) ∷ without_key key (rows_of at keys)) (without_key key (rows_of at keys))) same)
+    by_test true same (Some one) is rest = rest ∙ sym (ap (λ b. cond (not b) ((k, one) ∷ without_key key (members_of at keys)) (without_key key (members_of at keys))) same)
     by_test false same None is rest =
-        ap (λ o. row_of k o ++ rows_of new (without key keys)) (others k (λ one. absurd (false≢true (sym same ∙ eq-eqb k key one))) ∙ is) ∙ rest
+        ap (λ o. member_of k o ++ members_of new (without key keys)) (others k (λ one. absurd (false≢true (sym same ∙ eq-eqb k key one))) ∙ is) ∙ rest
     by_test false same (Some one) is rest =
-        ap (λ o. row_of k o ++ rows_of new (without key keys)) (others k (λ same_key. absurd (false≢true (sym same ∙ eq-eqb k key same_key))) ∙ is)
-        ∙ ap (λ rows. (k, one) ∷ rows) rest
-        ∙ sym (ap (λ b. cond (not b) ((k, one) ∷ without_key key (rows_of at keys)) (without_key key (rows_of at keys))) same)
+        ap (λ o. member_of k o ++ members_of new (without key keys)) (others k (λ same_key. absurd (false≢true (sym same ∙ eq-eqb k key same_key))) ∙ is)
+        ∙ ap (λ members. (k, one) ∷ members) rest
+        ∙ sym (ap (λ b. cond (not b) ((k, one) ∷ without_key key (members_of at keys)) (without_key key (members_of at keys))) same)
 
 each_less : (P : ℕ → Type 0) (key : ℕ) (keys : List ℕ) → Each P keys → Each P (without key keys)
 each_less P key [] each = record {}
@@ -183,26 +183,26 @@ length_less key (k ∷ keys) distinct there = by_test (k == key) refl there (len
 
 -- ---- another one
 
-pub rows_with : (at new : ℕ → Option ObservedValue) (key : ℕ) (becomes : ObservedValue → ObservedValue) (keys : List ℕ) → new key ≡ option_map becomes (at key)
-    → ((other : ℕ) → other ≢ key → new other ≡ at other) → rows_of new keys ≡ with_key key becomes (rows_of at keys)
-rows_with at new key becomes [] is others = refl
-rows_with at new key becomes (k ∷ keys) is others = by_test (k == key) refl (at k) refl (rows_with at new key becomes keys is others)
+pub members_with : (at new : ℕ → Option ObservedValue) (key : ℕ) (becomes : ObservedValue → ObservedValue) (keys : List ℕ) → new key ≡ option_map becomes (at key)
+    → ((other : ℕ) → other ≢ key → new other ≡ at other) → members_of new keys ≡ with_key key becomes (members_of at keys)
+members_with at new key becomes [] is others = refl
+members_with at new key becomes (k ∷ keys) is others = by_test (k == key) refl (at k) refl (members_with at new key becomes keys is others)
   where
-    by_test : (b : Bool) → (k == key) ≡ b → (o : Option ObservedValue) → at k ≡ o → rows_of new keys ≡ with_key key becomes (rows_of at keys)
-        → row_of k (new k) ++ rows_of new keys ≡ with_key key becomes (row_of k o ++ rows_of at keys)
+    by_test : (b : Bool) → (k == key) ≡ b → (o : Option ObservedValue) → at k ≡ o → members_of new keys ≡ with_key key becomes (members_of at keys)
+        → member_of k (new k) ++ members_of new keys ≡ with_key key becomes (member_of k o ++ members_of at keys)
     by_test true same None none rest =
-        ap (λ o. row_of k o ++ rows_of new keys) (ap new (eqb-true k key same) ∙ is ∙ ap (λ j. option_map becomes (at j)) (sym (eqb-true k key same)) ∙ ap (option_map becomes) none)
+        ap (λ o. member_of k o ++ members_of new keys) (ap new (eqb-true k key same) ∙ is ∙ ap (λ j. option_map becomes (at j)) (sym (eqb-true k key same)) ∙ ap (option_map becomes) none)
         ∙ rest
     by_test true same (Some one) some rest =
-        ap (λ o. row_of k o ++ rows_of new keys) (ap new (eqb-true k key same) ∙ is ∙ ap (λ j. option_map becomes (at j)) (sym (eqb-true k key same)) ∙ ap (option_map becomes) some)
-        ∙ ap (λ rows. (k, becomes one) ∷ rows) rest
-        ∙ sym (ap (λ b. cond b (k, becomes one) (k, one) ∷ with_key key becomes (rows_of at keys)) same)
+        ap (λ o. member_of k o ++ members_of new keys) (ap new (eqb-true k key same) ∙ is ∙ ap (λ j. option_map becomes (at j)) (sym (eqb-true k key same)) ∙ ap (option_map becomes) some)
+        ∙ ap (λ members. (k, becomes one) ∷ members) rest
+        ∙ sym (ap (λ b. cond b (k, becomes one) (k, one) ∷ with_key key becomes (members_of at keys)) same)
     by_test false same None none rest =
-        ap (λ o. row_of k o ++ rows_of new keys) (others k (λ one. absurd (false≢true (sym same ∙ eq-eqb k key one))) ∙ none) ∙ rest
+        ap (λ o. member_of k o ++ members_of new keys) (others k (λ one. absurd (false≢true (sym same ∙ eq-eqb k key one))) ∙ none) ∙ rest
     by_test false same (Some one) some rest =
-        ap (λ o. row_of k o ++ rows_of new keys) (others k (λ same_key. absurd (false≢true (sym same ∙ eq-eqb k key same_key))) ∙ some)
-        ∙ ap (λ rows. (k, one) ∷ rows) rest
-        ∙ sym (ap (λ b. cond b (k, becomes one) (k, one) ∷ with_key key becomes (rows_of at keys)) same)
+        ap (λ o. member_of k o ++ members_of new keys) (others k (λ same_key. absurd (false≢true (sym same ∙ eq-eqb k key same_key))) ∙ some)
+        ∙ ap (λ members. (k, one) ∷ members) rest
+        ∙ sym (ap (λ b. cond b (k, becomes one) (k, one) ∷ with_key key becomes (members_of at keys)) same)
 
 pub put_there : (at new : ℕ → Option ObservedValue) (key : ℕ) (one : ObservedValue) (keys : List ℕ) → AreThere at keys → has_slot key keys ≡ true → new key ≡ Some one
     → ((other : ℕ) → other ≢ key → new other ≡ at other) → AreThere new keys

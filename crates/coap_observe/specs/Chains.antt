@@ -9,7 +9,7 @@ use Rattle.linked_orders.specs.Links.{Each, Apart, Distinct}
 use Rattle.linked_orders.specs.Orders.{without}
 use Rattle.linked_orders.specs.Rings.{RingValue}
 use Rattle.coap_observe.specs.declared.chains.Chain.{Chain}
-use Rattle.coap_observe.specs.Rolls.{Row, keys_of, has_key, own_keys}
+use Rattle.coap_observe.specs.Rolls.{Member, keys_of, has_key, own_keys}
 
 -- the keys of a peer's observers, in the order of registration, how many there may be, and the number from which one comes to the first
 pub record ChainValue : Type 0 where
@@ -85,15 +85,15 @@ chains_of (chain ∷ chains) (ring ∷ rings) = chain_of chain ring ∷ chains_o
 -- ---- what always holds
 
 -- all keys are those of observers
-abbrev pub AreWithin : List Row → List ChainValue → Type 0
-AreWithin rows [] = Unit {0}
-AreWithin rows (chain ∷ chains) = Each (λ key. has_key key rows ≡ true) chain.keys × AreWithin rows chains
+abbrev pub AreWithin : List Member → List ChainValue → Type 0
+AreWithin members [] = Unit {0}
+AreWithin members (chain ∷ chains) = Each (λ key. has_key key members ≡ true) chain.keys × AreWithin members chains
 
 -- no key is there twice, and each chain has the keys of its peer's observers
-pub record AreChained (chains : List ChainValue) (rows : List Row) : Type 0 where
-  pub apart : Distinct (keys_of rows)
-  pub own : (peer : ℕ) → keys_in peer chains ≡ own_keys peer rows
-  pub within : AreWithin rows chains
+pub record AreChained (chains : List ChainValue) (members : List Member) : Type 0 where
+  pub apart : Distinct (keys_of members)
+  pub own : (peer : ℕ) → keys_in peer chains ≡ own_keys peer members
+  pub within : AreWithin members chains
 
 abbrev pub HaveRoom : List Pair → ℕ → List ChainValue → Type 0
 HaveRoom pairs room chains = (peer : ℕ) → room_in peer chains ≡ room_for pairs room peer

@@ -56,12 +56,12 @@ impl Model for Observers {
 
     ghost Value = { ObserversValue };
 
-    ghost view = { λ o. record { room = o.room; pairs = o.pairs; observed = observed_of o.roll.rows } };
+    ghost view = { λ o. record { room = o.room; pairs = o.pairs; observed = observed_of o.roll.members } };
 
     ghost invariant = { λ o. record {
-      bounded : AreBounded o.pairs o.room (observed_of o.roll.rows);
+      bounded : AreBounded o.pairs o.room (observed_of o.roll.members);
       reserved : length o.pairs * o.room ≤ o.roll.room;
-      chained : AreChained o.chains.chains o.roll.rows;
+      chained : AreChained o.chains.chains o.roll.members;
       rooms : HaveRoom o.pairs o.room o.chains.chains;
       limit : o.roll.room ≤ o.chains.limit;
     } };
@@ -162,8 +162,8 @@ impl Observers {
 
 /// Whether the observer is there already for its domain, or there are fewer of its peer and domain than the room.
 fn has_room(roll: &Roll, chains: &Chains, room: usize, observer: &Observer) -> bool
-    requires { AreChained chains.now.chains roll.now.rows }
-    ensures { result ≡ has_room room observer.now (observed_of roll.now.rows) }
+    requires { AreChained chains.now.chains roll.now.members }
+    ensures { result ≡ has_room room observer.now (observed_of roll.now.members) }
 {
     if is_at_home(roll, chains, observer) {
         return true;
@@ -173,8 +173,8 @@ fn has_room(roll: &Roll, chains: &Chains, room: usize, observer: &Observer) -> b
 
 /// Whether the observer is there already, and for its domain.
 fn is_at_home(roll: &Roll, chains: &Chains, observer: &Observer) -> bool
-    requires { AreChained chains.now.chains roll.now.rows }
-    ensures { result ≡ option_any (λ o. o.observer.domain == observer.now.domain) (own_of observer.now (observed_of roll.now.rows)) }
+    requires { AreChained chains.now.chains roll.now.members }
+    ensures { result ≡ option_any (λ o. o.observer.domain == observer.now.domain) (own_of observer.now (observed_of roll.now.members)) }
 {
     match token_key(roll, chains, observer.peer, observer.token.bytes()) {
         Some(key) => is_domain_at(roll, key, observer.domain),
@@ -183,7 +183,7 @@ fn is_at_home(roll: &Roll, chains: &Chains, observer: &Observer) -> bool
 }
 
 fn is_domain_at(roll: &Roll, key: usize, domain: u16) -> bool
-    ensures { result ≡ option_any (λ o. o.observer.domain == domain) (one_at key roll.now.rows) }
+    ensures { result ≡ option_any (λ o. o.observer.domain == domain) (one_at key roll.now.members) }
 {
     match roll.get(key) {
         Some(one) => one.observer().domain == domain,
@@ -193,8 +193,8 @@ fn is_domain_at(roll: &Roll, key: usize, domain: u16) -> bool
 
 /// The number of the next message to an observer.
 fn number_for(roll: &Roll, chains: &Chains, observer: &Observer) -> u32
-    requires { AreChained chains.now.chains roll.now.rows }
-    ensures { result ≡ number_for observer.now (observed_of roll.now.rows) }
+    requires { AreChained chains.now.chains roll.now.members }
+    ensures { result ≡ number_for observer.now (observed_of roll.now.members) }
 {
     match token_key(roll, chains, observer.peer, observer.token.bytes()) {
         Some(key) => number_at(roll, key),
@@ -203,7 +203,7 @@ fn number_for(roll: &Roll, chains: &Chains, observer: &Observer) -> u32
 }
 
 fn number_at(roll: &Roll, key: usize) -> u32
-    ensures { result ≡ unwrap_or (option_map (λ o. o.number) (one_at key roll.now.rows)) 1 }
+    ensures { result ≡ unwrap_or (option_map (λ o. o.number) (one_at key roll.now.members)) 1 }
 {
     match roll.get(key) {
         Some(one) => one.number(),
@@ -213,8 +213,8 @@ fn number_at(roll: &Roll, key: usize) -> u32
 
 /// The key of the observer of this peer and token.
 fn token_key(roll: &Roll, chains: &Chains, peer: u32, token: &[u8]) -> Option<usize>
-    requires { AreChained chains.now.chains roll.now.rows }
-    ensures { result ≡ first_key (is_token peer token.now) roll.now.rows }
+    requires { AreChained chains.now.chains roll.now.members }
+    ensures { result ≡ first_key (is_token peer token.now) roll.now.members }
 {
     match chains.place(peer) {
         Some(at) => token_among(roll, chains, at, peer, token),
@@ -225,7 +225,7 @@ fn token_key(roll: &Roll, chains: &Chains, peer: u32, token: &[u8]) -> Option<us
 /// The first key of the chain at this place whose observer is of this peer and token.
 fn token_among(roll: &Roll, chains: &Chains, at: usize, peer: u32, token: &[u8]) -> Option<usize>
     requires { at < length chains.now.chains }
-    ensures { result ≡ find (λ key. option_any (is_token peer token.now) (one_at key roll.now.rows)) (chain_at at chains.now.chains).keys }
+    ensures { result ≡ find (λ key. option_any (is_token peer token.now) (one_at key roll.now.members)) (chain_at at chains.now.chains).keys }
 {
     let mut key = chains.start(at);
     for place in 0..chains.len(at) {
@@ -238,7 +238,7 @@ fn token_among(roll: &Roll, chains: &Chains, at: usize, peer: u32, token: &[u8])
 }
 
 fn is_token_at(roll: &Roll, key: usize, peer: u32, token: &[u8]) -> bool
-    ensures { result ≡ option_any (is_token peer token.now) (one_at key roll.now.rows) }
+    ensures { result ≡ option_any (is_token peer token.now) (one_at key roll.now.members) }
 {
     match roll.get(key) {
         Some(one) => one.is_token(peer, token),
@@ -248,8 +248,8 @@ fn is_token_at(roll: &Roll, key: usize, peer: u32, token: &[u8]) -> bool
 
 /// The key of the first observer of this peer whose last notification had this Message ID.
 fn id_key(roll: &Roll, chains: &Chains, peer: u32, id: u16) -> Option<usize>
-    requires { AreChained chains.now.chains roll.now.rows }
-    ensures { result ≡ first_key (had_id peer id) roll.now.rows }
+    requires { AreChained chains.now.chains roll.now.members }
+    ensures { result ≡ first_key (had_id peer id) roll.now.members }
 {
     match chains.place(peer) {
         Some(at) => id_among(roll, chains, at, peer, id),
@@ -260,7 +260,7 @@ fn id_key(roll: &Roll, chains: &Chains, peer: u32, id: u16) -> Option<usize>
 /// The first key of the chain at this place whose observer is of this peer and had this Message ID.
 fn id_among(roll: &Roll, chains: &Chains, at: usize, peer: u32, id: u16) -> Option<usize>
     requires { at < length chains.now.chains }
-    ensures { result ≡ find (λ key. option_any (had_id peer id) (one_at key roll.now.rows)) (chain_at at chains.now.chains).keys }
+    ensures { result ≡ find (λ key. option_any (had_id peer id) (one_at key roll.now.members)) (chain_at at chains.now.chains).keys }
 {
     let mut key = chains.start(at);
     for place in 0..chains.len(at) {
@@ -273,7 +273,7 @@ fn id_among(roll: &Roll, chains: &Chains, at: usize, peer: u32, id: u16) -> Opti
 }
 
 fn had_id_at(roll: &Roll, key: usize, peer: u32, id: u16) -> bool
-    ensures { result ≡ option_any (had_id peer id) (one_at key roll.now.rows) }
+    ensures { result ≡ option_any (had_id peer id) (one_at key roll.now.members) }
 {
     match roll.get(key) {
         Some(one) => one.had_id(peer, id),
@@ -283,8 +283,8 @@ fn had_id_at(roll: &Roll, key: usize, peer: u32, id: u16) -> bool
 
 /// How many observers are of this peer and domain.
 fn count_of(roll: &Roll, chains: &Chains, peer: u32, domain: u16) -> usize
-    requires { AreChained chains.now.chains roll.now.rows }
-    ensures { result ≡ tally (is_of peer domain) (observed_of roll.now.rows) }
+    requires { AreChained chains.now.chains roll.now.members }
+    ensures { result ≡ tally (is_of peer domain) (observed_of roll.now.members) }
 {
     match chains.place(peer) {
         Some(at) => count_among(roll, chains, at, peer, domain),
@@ -295,7 +295,7 @@ fn count_of(roll: &Roll, chains: &Chains, peer: u32, domain: u16) -> usize
 /// How many keys of the chain at this place have an observer of this peer and domain.
 fn count_among(roll: &Roll, chains: &Chains, at: usize, peer: u32, domain: u16) -> usize
     requires { at < length chains.now.chains }
-    ensures { result ≡ tally (λ key. option_any (is_of peer domain) (one_at key roll.now.rows)) (chain_at at chains.now.chains).keys }
+    ensures { result ≡ tally (λ key. option_any (is_of peer domain) (one_at key roll.now.members)) (chain_at at chains.now.chains).keys }
 {
     let mut key = chains.start(at);
     let mut count = 0;
@@ -309,7 +309,7 @@ fn count_among(roll: &Roll, chains: &Chains, at: usize, peer: u32, domain: u16) 
 }
 
 fn is_of_at(roll: &Roll, key: usize, peer: u32, domain: u16) -> bool
-    ensures { result ≡ option_any (is_of peer domain) (one_at key roll.now.rows) }
+    ensures { result ≡ option_any (is_of peer domain) (one_at key roll.now.members) }
 {
     match roll.get(key) {
         Some(one) => one.is_of(peer, domain),
@@ -319,14 +319,14 @@ fn is_of_at(roll: &Roll, key: usize, peer: u32, domain: u16) -> bool
 
 /// Puts an observer into the place of the one of its peer and token, or else to the end, and answers its number.
 fn enter(roll: &mut Roll, chains: &mut Chains, observer: Observer, seen: SeenList) -> u32
-    requires fits { length (entered observer seen (observed_of roll.old.rows)) ≤ roll.old.room }
-    requires chained { AreChained chains.old.chains roll.old.rows }
-    requires room { tally (λ o. peer_of o == observer.peer) (entered observer seen (observed_of roll.old.rows)) ≤ room_in observer.peer chains.old.chains }
+    requires fits { length (entered observer seen (observed_of roll.old.members)) ≤ roll.old.room }
+    requires chained { AreChained chains.old.chains roll.old.members }
+    requires room { tally (λ o. peer_of o == observer.peer) (entered observer seen (observed_of roll.old.members)) ≤ room_in observer.peer chains.old.chains }
     requires limit { roll.old.room ≤ chains.old.limit }
-    ensures number { result ≡ number_for observer (observed_of roll.old.rows) }
-    ensures list { observed_of roll.new.rows ≡ entered observer seen (observed_of roll.old.rows) }
+    ensures number { result ≡ number_for observer (observed_of roll.old.members) }
+    ensures list { observed_of roll.new.members ≡ entered observer seen (observed_of roll.old.members) }
     ensures capacity { roll.new.room ≡ roll.old.room }
-    ensures chained { AreChained chains.new.chains roll.new.rows }
+    ensures chained { AreChained chains.new.chains roll.new.members }
     ensures room { SameRoom chains.old chains.new }
 {
     let peer = observer.peer;
@@ -342,11 +342,11 @@ fn enter(roll: &mut Roll, chains: &mut Chains, observer: Observer, seen: SeenLis
 
 /// The observer under this key, which is of this peer, goes.
 fn remove_key(roll: &mut Roll, chains: &mut Chains, peer: u32, key: usize)
-    requires own { option_map peer_of (one_at key roll.old.rows) ≡ Some peer }
-    requires chained { AreChained chains.old.chains roll.old.rows }
-    ensures rows { roll.new.rows ≡ without_key key roll.old.rows }
+    requires own { option_map peer_of (one_at key roll.old.members) ≡ Some peer }
+    requires chained { AreChained chains.old.chains roll.old.members }
+    ensures rows { roll.new.members ≡ without_key key roll.old.members }
     ensures capacity { roll.new.room ≡ roll.old.room }
-    ensures chained { AreChained chains.new.chains roll.new.rows }
+    ensures chained { AreChained chains.new.chains roll.new.members }
     ensures room { SameRoom chains.old chains.new }
 {
     roll.remove(key);
@@ -354,10 +354,10 @@ fn remove_key(roll: &mut Roll, chains: &mut Chains, peer: u32, key: usize)
 }
 
 fn retain_others(roll: &mut Roll, chains: &mut Chains, peer: u32, token: &[u8])
-    requires chained { AreChained chains.old.chains roll.old.rows }
-    ensures items { observed_of roll.new.rows ≡ deregistered peer token.now (observed_of roll.old.rows) }
+    requires chained { AreChained chains.old.chains roll.old.members }
+    ensures items { observed_of roll.new.members ≡ deregistered peer token.now (observed_of roll.old.members) }
     ensures capacity { roll.new.room ≡ roll.old.room }
-    ensures chained { AreChained chains.new.chains roll.new.rows }
+    ensures chained { AreChained chains.new.chains roll.new.members }
     ensures room { SameRoom chains.old chains.new }
 {
     while let Some(key) = token_key(roll, chains, peer, token) {
@@ -366,10 +366,10 @@ fn retain_others(roll: &mut Roll, chains: &mut Chains, peer: u32, token: &[u8])
 }
 
 fn retain_other_ids(roll: &mut Roll, chains: &mut Chains, peer: u32, id: u16)
-    requires chained { AreChained chains.old.chains roll.old.rows }
-    ensures items { observed_of roll.new.rows ≡ without_id peer id (observed_of roll.old.rows) }
+    requires chained { AreChained chains.old.chains roll.old.members }
+    ensures items { observed_of roll.new.members ≡ without_id peer id (observed_of roll.old.members) }
     ensures capacity { roll.new.room ≡ roll.old.room }
-    ensures chained { AreChained chains.new.chains roll.new.rows }
+    ensures chained { AreChained chains.new.chains roll.new.members }
     ensures room { SameRoom chains.old chains.new }
 {
     while let Some(key) = id_key(roll, chains, peer, id) {
@@ -379,9 +379,9 @@ fn retain_other_ids(roll: &mut Roll, chains: &mut Chains, peer: u32, id: u16)
 
 /// Whether an observer is among these. Those of a domain are looked for among those of its peers alone.
 fn has_any_among(roll: &Roll, chains: &Chains, pairs: &[Pair], among: DueAmong) -> bool
-    requires chained { AreChained chains.now.chains roll.now.rows }
-    requires known { AreOf pairs.now (observed_of roll.now.rows) }
-    ensures { result ≡ list_any (includes_one among) (observed_of roll.now.rows) }
+    requires chained { AreChained chains.now.chains roll.now.members }
+    requires known { AreOf pairs.now (observed_of roll.now.members) }
+    ensures { result ≡ list_any (includes_one among) (observed_of roll.now.members) }
 {
     if roll.len() == 0 {
         return false;
@@ -395,9 +395,9 @@ fn has_any_among(roll: &Roll, chains: &Chains, pairs: &[Pair], among: DueAmong) 
 
 /// Whether an observer is of this domain.
 fn has_any_of(roll: &Roll, chains: &Chains, pairs: &[Pair], domain: u16) -> bool
-    requires chained { AreChained chains.now.chains roll.now.rows }
-    requires known { AreOf pairs.now (observed_of roll.now.rows) }
-    ensures { result ≡ list_any (includes_one (Domain domain)) (observed_of roll.now.rows) }
+    requires chained { AreChained chains.now.chains roll.now.members }
+    requires known { AreOf pairs.now (observed_of roll.now.members) }
+    ensures { result ≡ list_any (includes_one (Domain domain)) (observed_of roll.now.members) }
 {
     for pair in pairs {
         if has_one(roll, chains, *pair, domain) {
@@ -409,16 +409,16 @@ fn has_any_of(roll: &Roll, chains: &Chains, pairs: &[Pair], domain: u16) -> bool
 
 /// Whether the pair is one of this domain, and has an observer.
 fn has_one(roll: &Roll, chains: &Chains, pair: Pair, domain: u16) -> bool
-    requires { AreChained chains.now.chains roll.now.rows }
-    ensures { result ≡ has_one domain (observed_of roll.now.rows) pair }
+    requires { AreChained chains.now.chains roll.now.members }
+    ensures { result ≡ has_one domain (observed_of roll.now.members) pair }
 {
     pair.domain == domain && pair_key(roll, chains, pair.peer, domain).is_some()
 }
 
 /// The key of the first observer of this peer and domain.
 fn pair_key(roll: &Roll, chains: &Chains, peer: u32, domain: u16) -> Option<usize>
-    requires { AreChained chains.now.chains roll.now.rows }
-    ensures { result ≡ first_key (is_of peer domain) roll.now.rows }
+    requires { AreChained chains.now.chains roll.now.members }
+    ensures { result ≡ first_key (is_of peer domain) roll.now.members }
 {
     match chains.place(peer) {
         Some(at) => pair_among(roll, chains, at, peer, domain),
@@ -429,7 +429,7 @@ fn pair_key(roll: &Roll, chains: &Chains, peer: u32, domain: u16) -> Option<usiz
 /// The first key of the chain at this place whose observer is of this peer and domain.
 fn pair_among(roll: &Roll, chains: &Chains, at: usize, peer: u32, domain: u16) -> Option<usize>
     requires { at < length chains.now.chains }
-    ensures { result ≡ find (λ key. option_any (is_of peer domain) (one_at key roll.now.rows)) (chain_at at chains.now.chains).keys }
+    ensures { result ≡ find (λ key. option_any (is_of peer domain) (one_at key roll.now.members)) (chain_at at chains.now.chains).keys }
 {
     let mut key = chains.start(at);
     for place in 0..chains.len(at) {
@@ -447,9 +447,9 @@ fn next_due<'a, V: Views>(
     among: DueAmong,
     from: usize,
 ) -> Option<Notice<'a>>
-    requires { Distinct (keys_of roll.now.rows) }
-    ensures next { MatchOption result (NoneIsDue (V.lists views.now) among from (length (observed_of roll.now.rows)) (observed_of roll.now.rows))
-        (λ notice. IsNextDue (V.lists views.now) among from (observed_of roll.now.rows) notice.place notice.observer.now notice.number notice.gone) }
+    requires { Distinct (keys_of roll.now.members) }
+    ensures next { MatchOption result (NoneIsDue (V.lists views.now) among from (length (observed_of roll.now.members)) (observed_of roll.now.members))
+        (λ notice. IsNextDue (V.lists views.now) among from (observed_of roll.now.members) notice.place notice.observer.now notice.number notice.gone) }
     ensures few { IfSome result (λ notice. notice.place + 1 < 2 ^ 64) }
 {
     let mut key = roll.start();
@@ -477,8 +477,8 @@ fn is_next<V: Views>(
     place: usize,
     from: usize,
 ) -> bool
-    requires { has_key key roll.now.rows ≡ true }
-    ensures { result ≡ nat_le from place && option_any (λ o. includes_one among o && is_due (V.lists views.now) o) (one_at key roll.now.rows) }
+    requires { has_key key roll.now.members ≡ true }
+    ensures { result ≡ nat_le from place && option_any (λ o. includes_one among o && is_due (V.lists views.now) o) (one_at key roll.now.members) }
 {
     place >= from && is_due_among(roll.one(key), views, among)
 }
@@ -491,11 +491,11 @@ fn is_due_among<V: Views>(one: &Observed, views: &V, among: DueAmong) -> bool
 
 /// The observer at this place was notified of what there is to see, or goes where there is nothing.
 fn notify<V: Views>(roll: &mut Roll, chains: &mut Chains, views: &V, place: usize, id: u16)
-    requires at { place < length roll.old.rows }
-    requires chained { AreChained chains.old.chains roll.old.rows }
-    ensures items { observed_of roll.new.rows ≡ replace_at place (after_notice (V.lists views.now) id) (observed_of roll.old.rows) }
+    requires at { place < length roll.old.members }
+    requires chained { AreChained chains.old.chains roll.old.members }
+    ensures items { observed_of roll.new.members ≡ replace_at place (after_notice (V.lists views.now) id) (observed_of roll.old.members) }
     ensures capacity { roll.new.room ≡ roll.old.room }
-    ensures chained { AreChained chains.new.chains roll.new.rows }
+    ensures chained { AreChained chains.new.chains roll.new.members }
     ensures room { SameRoom chains.old chains.new }
 {
     let key = roll.at(place);

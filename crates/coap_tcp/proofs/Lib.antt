@@ -1,5 +1,5 @@
 pub mod Rests
 pub mod Lengths
-pub mod Outcomes
+pub mod CutValues
 pub mod Streams
 pub mod Putting

@@ -4,11 +4,11 @@ use Rattle.std.specs.List.{AllByRecursion}
 use Rattle.std.proofs.lemmas.List.{append-nil}
 use Rattle.coap_tcp.specs.declared.fault.FrameFault.{FrameFault}
 use Rattle.coap_tcp.specs.Frames.{FrameValue, IsFrame, BeginsWith, frame_bytes}
-use Rattle.coap_tcp.specs.FrameReading.{FrameOutcome, takes, waits, refuses, frame_at}
+use Rattle.coap_tcp.specs.FrameReading.{FrameCutValue, takes, waits, refuses, frame_at}
 use Rattle.coap_tcp.specs.Streams.{frames_bytes, IsEnd, IsStream, joined, AreRead}
-use Rattle.coap_tcp.proofs.Outcomes.{frame_again, frame_still}
+use Rattle.coap_tcp.proofs.CutValues.{frame_again, frame_still}
 
-taken : FrameValue → FrameOutcome → FrameValue
+taken : FrameValue → FrameCutValue → FrameValue
 taken instead (takes f) = f
 taken instead waits = instead
 taken instead (refuses fault) = instead
@@ -23,7 +23,7 @@ first_of_stream : (f : FrameValue) (fs : List FrameValue) (rest : List ℕ) → 
 first_of_stream f fs rest is = ap frame_at (append_assoc (frame_bytes f) (frames_bytes fs) rest) ∙ frame_again f (frames_bytes fs ++ rest) is
 
 -- no frame begins what is the end
-no_frame : (bytes : List ℕ) (end : FrameOutcome) (f : FrameValue) → frame_at bytes ≡ end → IsEnd end → frame_at bytes ≡ takes f → ⊥
+no_frame : (bytes : List ℕ) (end : FrameCutValue) (f : FrameValue) → frame_at bytes ≡ end → IsEnd end → frame_at bytes ≡ takes f → ⊥
 no_frame bytes end f e ends t = subst IsEnd (sym e ∙ t) ends
 
 left_same : (a b c : List ℕ) → a ++ b ≡ a ++ c → b ≡ c
@@ -34,7 +34,7 @@ left_same (x ∷ a) b c e = left_same a b c (ap tail_of e)
     tail_of [] = []
     tail_of (y ∷ ys) = ys
 
-one_list : (fs gs : List FrameValue) (a b : List ℕ) (e p : FrameOutcome) → AllByRecursion IsFrame fs → AllByRecursion IsFrame gs → frames_bytes fs ++ a ≡ frames_bytes gs ++ b
+one_list : (fs gs : List FrameValue) (a b : List ℕ) (e p : FrameCutValue) → AllByRecursion IsFrame fs → AllByRecursion IsFrame gs → frames_bytes fs ++ a ≡ frames_bytes gs ++ b
     → frame_at a ≡ e → IsEnd e → frame_at b ≡ p → IsEnd p → AreSame fs gs a b
 one_list [] [] a b e p x y same u v w z = record { frames = refl; rest = same }
 one_list [] (g ∷ gs) a b e p x y same u v w z = absurd (no_frame a e g u v (ap frame_at same ∙ first_of_stream g gs b y.0))
@@ -49,10 +49,10 @@ one_list (f ∷ fs) (g ∷ gs) a b e p x y same u v w z =
     record { frames = λ i. one i ∷ later.frames i; rest = later.rest }
 
 -- the bytes of a stream have one list of frames, one end and one rest
-pub one_stream : (bytes : List ℕ) (fs gs : List FrameValue) (e p : FrameOutcome) (a b : List ℕ) → IsStream bytes fs e a → IsStream bytes gs p b → (fs ≡ gs) × (e ≡ p) × (a ≡ b)
+pub one_stream : (bytes : List ℕ) (fs gs : List FrameValue) (e p : FrameCutValue) (a b : List ℕ) → IsStream bytes fs e a → IsStream bytes gs p b → (fs ≡ gs) × (e ≡ p) × (a ≡ b)
 one_stream bytes fs gs e p a b x y =
-    let same = one_list fs gs a b e p x.are y.are (sym x.parts ∙ y.parts) x.outcome x.ends y.outcome y.ends in
-    (same.frames, sym x.outcome ∙ ap frame_at same.rest ∙ y.outcome, same.rest)
+    let same = one_list fs gs a b e p x.are y.are (sym x.parts ∙ y.parts) x.as_cut x.ends y.as_cut y.ends in
+    (same.frames, sym x.as_cut ∙ ap frame_at same.rest ∙ y.as_cut, same.rest)
 
 -- ---- what follows later
 
@@ -65,12 +65,12 @@ bytes_both [] gs = refl
 bytes_both (f ∷ fs) gs = ap (λ (y : List ℕ). frame_bytes f ++ y) (bytes_both fs gs) ∙ sym (append_assoc (frame_bytes f) (frames_bytes fs) (frames_bytes gs))
 
 -- what is waited with is read with what follows
-pub stream_more : (bytes more : List ℕ) (fs gs : List FrameValue) (end : FrameOutcome) (between rest : List ℕ) → IsStream bytes fs waits between → IsStream (between ++ more) gs end rest → IsStream (bytes ++ more) (fs ++ gs) end rest
+pub stream_more : (bytes more : List ℕ) (fs gs : List FrameValue) (end : FrameCutValue) (between rest : List ℕ) → IsStream bytes fs waits between → IsStream (between ++ more) gs end rest → IsStream (bytes ++ more) (fs ++ gs) end rest
 stream_more bytes more fs gs end between rest x y = record {
   are = are_both fs gs x.are y.are;
   parts = ap (λ (z : List ℕ). z ++ more) x.parts ∙ append_assoc (frames_bytes fs) between more ∙ ap (λ (z : List ℕ). frames_bytes fs ++ z) y.parts
       ∙ sym (append_assoc (frames_bytes fs) (frames_bytes gs) rest) ∙ ap (λ (z : List ℕ). z ++ rest) (sym (bytes_both fs gs));
-  outcome = y.outcome;
+  as_cut = y.as_cut;
   ends = y.ends;
 }
 
@@ -94,22 +94,22 @@ pub stream_refused : (bytes more : List ℕ) (fs : List FrameValue) (fault : Fra
 stream_refused bytes more fs fault rest x = record {
   are = x.are;
   parts = ap (λ (z : List ℕ). z ++ more) x.parts ∙ append_assoc (frames_bytes fs) rest more;
-  outcome = refused_still rest more fault x.outcome;
+  as_cut = refused_still rest more fault x.as_cut;
   ends = tt;
 }
 
 -- what is read in pieces is what stands in all of the bytes
-pub read_stream : (held : List ℕ) (pieces : List (List ℕ)) (frames : List FrameValue) (end : FrameOutcome) → AreRead held pieces frames end → (rest : List ℕ) × IsStream (held ++ joined pieces) frames end rest
-read_stream held [] frames end x = (x.0, subst (λ (y : List ℕ). IsStream y frames end x.0) (sym (append-nil held)) x.1)
-read_stream held (piece ∷ pieces) frames end (inl x) =
-    let still = stream_refused held (piece ++ joined pieces) frames x.0 x.1 x.2 in
-    (x.1 ++ (piece ++ joined pieces), subst (λ (e : FrameOutcome). IsStream (held ++ (piece ++ joined pieces)) frames e (x.1 ++ (piece ++ joined pieces))) (sym x.3) still)
-read_stream held (piece ∷ pieces) frames end (inr x) =
+pub read_stream : (buffered : List ℕ) (pieces : List (List ℕ)) (frames : List FrameValue) (end : FrameCutValue) → AreRead buffered pieces frames end → (rest : List ℕ) × IsStream (buffered ++ joined pieces) frames end rest
+read_stream buffered [] frames end x = (x.0, subst (λ (y : List ℕ). IsStream y frames end x.0) (sym (append-nil buffered)) x.1)
+read_stream buffered (piece ∷ pieces) frames end (inl x) =
+    let still = stream_refused buffered (piece ++ joined pieces) frames x.0 x.1 x.2 in
+    (x.1 ++ (piece ++ joined pieces), subst (λ (e : FrameCutValue). IsStream (buffered ++ (piece ++ joined pieces)) frames e (x.1 ++ (piece ++ joined pieces))) (sym x.3) still)
+read_stream buffered (piece ∷ pieces) frames end (inr x) =
     let later = read_stream (x.1 ++ piece) pieces x.2 end x.4 in
     let so : IsStream (x.1 ++ (piece ++ joined pieces)) x.2 end later.0 = subst (λ (y : List ℕ). IsStream y x.2 end later.0) (append_assoc x.1 piece (joined pieces)) later.1 in
-    (later.0, subst (λ (fs : List FrameValue). IsStream (held ++ (piece ++ joined pieces)) fs end later.0) (sym x.5) (stream_more held (piece ++ joined pieces) x.0 x.2 end x.1 later.0 x.3 so))
+    (later.0, subst (λ (fs : List FrameValue). IsStream (buffered ++ (piece ++ joined pieces)) fs end later.0) (sym x.5) (stream_more buffered (piece ++ joined pieces) x.0 x.2 end x.1 later.0 x.3 so))
 
-pub one_reading : (pieces others : List (List ℕ)) (fs gs : List FrameValue) (e p : FrameOutcome) → joined pieces ≡ joined others → AreRead [] pieces fs e → AreRead [] others gs p → (fs ≡ gs) × (e ≡ p)
+pub one_reading : (pieces others : List (List ℕ)) (fs gs : List FrameValue) (e p : FrameCutValue) → joined pieces ≡ joined others → AreRead [] pieces fs e → AreRead [] others gs p → (fs ≡ gs) × (e ≡ p)
 one_reading pieces others fs gs e p same x y =
     let a = read_stream [] pieces fs e x in
     let b = read_stream [] others gs p y in

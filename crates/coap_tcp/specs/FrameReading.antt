@@ -11,10 +11,10 @@ use Rattle.coap_tcp.specs.declared.frame.FrameCut.TheVariants as cuts
 use Rattle.coap_tcp.specs.Frames.{FrameValue}
 
 -- what stands at the front of a stream: a frame, the beginning of one, or no frame, whatever follows
-pub data FrameOutcome : Type 0 where
-  takes : FrameValue → FrameOutcome
-  waits : FrameOutcome
-  refuses : FrameFault → FrameOutcome
+pub data FrameCutValue : Type 0 where
+  takes : FrameValue → FrameCutValue
+  waits : FrameCutValue
+  refuses : FrameFault → FrameCutValue
 
 abbrev pub four_bytes : List ℕ → Option (ℕ × List ℕ)
 four_bytes [] = None
@@ -38,22 +38,22 @@ unfoldable pub is_rest : List ℕ → Bool
 is_rest bytes = is_ending (drop (length (options_bytes 0 (options_in 0 bytes))) bytes)
 
 -- the frame is there whole
-abbrev pub with_rest : FrameValue → FrameOutcome
+abbrev pub with_rest : FrameValue → FrameCutValue
 with_rest f = if is_rest f.rest then takes f else refuses Options
 
 -- the length n and that of the token t are known, and these bytes stand behind them
-unfoldable pub outcome_behind : ℕ → ℕ → List ℕ → FrameOutcome
-outcome_behind t n [] = waits
-outcome_behind t n (code ∷ bytes) =
+unfoldable pub cut_value_behind : ℕ → ℕ → List ℕ → FrameCutValue
+cut_value_behind t n [] = waits
+cut_value_behind t n (code ∷ bytes) =
     if nat_lt (length bytes) (t + n) then waits
     else with_rest (record { code = code; token = take t bytes; rest = take n (drop t bytes) })
 
 -- the length with the bytes behind it, or None where its extension is cut
-unfoldable pub with_length : ℕ → Option (ℕ × List ℕ) → FrameOutcome
+unfoldable pub with_length : ℕ → Option (ℕ × List ℕ) → FrameCutValue
 with_length t None = waits
-with_length t (Some x) = if nat_lt 4096 x.0 then refuses TooLong else outcome_behind t x.0 x.1
+with_length t (Some x) = if nat_lt 4096 x.0 then refuses TooLong else cut_value_behind t x.0 x.1
 
-unfoldable pub frame_at : List ℕ → FrameOutcome
+unfoldable pub frame_at : List ℕ → FrameCutValue
 frame_at [] = waits
 frame_at (first ∷ bytes) =
     if nat_lt 8 (first % 16) then refuses Token
@@ -63,10 +63,10 @@ frame_at (first ∷ bytes) =
 abbrev pub frame_value : Frame → FrameValue
 frame_value frame = record { code = frame.code; token = frame.token.now; rest = frame.rest.now }
 
-abbrev pub outcome_of : code.FrameCut → FrameOutcome
-outcome_of (cuts.Message frame) = takes (frame_value frame)
-outcome_of cuts.More = waits
-outcome_of (cuts.Refused fault) = refuses fault
+abbrev pub cut_value : code.FrameCut → FrameCutValue
+cut_value (cuts.Message frame) = takes (frame_value frame)
+cut_value cuts.More = waits
+cut_value (cuts.Refused fault) = refuses fault
 
 -- P of the frame, where there is one
 abbrev pub IfFrame : code.FrameCut → (Frame → Type 0) → Type 0

@@ -3,7 +3,7 @@ use Rattle.std.specs.Prelude.{◌≡◌, ◌⊎◌, ℕ, List, [], ◌∷◌, �
 use Rattle.std.specs.List.{AllByRecursion}
 use Rattle.coap_tcp.specs.declared.fault.FrameFault.{FrameFault}
 use Rattle.coap_tcp.specs.Frames.{FrameValue, IsFrame, frame_bytes}
-use Rattle.coap_tcp.specs.FrameReading.{FrameOutcome, takes, waits, refuses, frame_at}
+use Rattle.coap_tcp.specs.FrameReading.{FrameCutValue, takes, waits, refuses, frame_at}
 
 -- the frames, one behind the other
 abbrev pub frames_bytes : List FrameValue → List ℕ
@@ -11,16 +11,16 @@ frames_bytes [] = []
 frames_bytes (f ∷ fs) = frame_bytes f ++ frames_bytes fs
 
 -- a stream ends where more is waited for, and at its first fault
-abbrev pub IsEnd : FrameOutcome → Type 0
+abbrev pub IsEnd : FrameCutValue → Type 0
 IsEnd (takes f) = ⊥
 IsEnd waits = ⊤
 IsEnd (refuses fault) = ⊤
 
 -- the bytes of a stream are these frames, one behind the other, and then the rest, which no frame begins
-pub record IsStream (bytes : List ℕ) (frames : List FrameValue) (end : FrameOutcome) (rest : List ℕ) : Type 0 where
+pub record IsStream (bytes : List ℕ) (frames : List FrameValue) (end : FrameCutValue) (rest : List ℕ) : Type 0 where
   pub are : AllByRecursion IsFrame frames
   pub parts : bytes ≡ frames_bytes frames ++ rest
-  pub outcome : frame_at rest ≡ end
+  pub as_cut : frame_at rest ≡ end
   pub ends : IsEnd end
 
 -- the pieces, one behind the other
@@ -29,13 +29,13 @@ joined [] = []
 joined (piece ∷ pieces) = piece ++ joined pieces
 
 -- a fault is the last that is read, and what follows it isn't looked at
-abbrev pub IsRefused : List ℕ → List FrameValue → FrameOutcome → Type 0
-IsRefused held frames end = (fault : FrameFault) × (rest : List ℕ) × IsStream held frames (refuses fault) rest × (end ≡ refuses fault)
+abbrev pub IsRefused : List ℕ → List FrameValue → FrameCutValue → Type 0
+IsRefused buffered frames end = (fault : FrameFault) × (rest : List ℕ) × IsStream buffered frames (refuses fault) rest × (end ≡ refuses fault)
 
 -- what a reader takes who holds some bytes and gets the others in pieces, and takes what is whole before each piece
-abbrev pub AreRead : List ℕ → List (List ℕ) → List FrameValue → FrameOutcome → Type 0
-AreRead held [] frames end = (rest : List ℕ) × IsStream held frames end rest
-AreRead held (piece ∷ pieces) frames end =
-    IsRefused held frames end
+abbrev pub AreRead : List ℕ → List (List ℕ) → List FrameValue → FrameCutValue → Type 0
+AreRead buffered [] frames end = (rest : List ℕ) × IsStream buffered frames end rest
+AreRead buffered (piece ∷ pieces) frames end =
+    IsRefused buffered frames end
     ⊎ ((first : List FrameValue) × (rest : List ℕ) × (later : List FrameValue)
-    × IsStream held first waits rest × AreRead (rest ++ piece) pieces later end × (frames ≡ first ++ later))
+    × IsStream buffered first waits rest × AreRead (rest ++ piece) pieces later end × (frames ≡ first ++ later))

@@ -1,7 +1,7 @@
 ghost use Rattle.std.specs.Prelude.{◌≡◌, ◌<◌, ◌≤◌, length, drop};
 ghost use Rattle.coap_message.specs.MessageReading.{Gives};
 ghost use Rattle.coap_tcp.specs.Frames.{BeginsWith, length_extension, frame_bytes};
-ghost use Rattle.coap_tcp.specs.FrameReading.{IfFrame, frame_at, frame_value, is_rest, length_at, outcome_behind, outcome_of, waits};
+ghost use Rattle.coap_tcp.specs.FrameReading.{IfFrame, frame_at, frame_value, is_rest, length_at, cut_value_behind, cut_value, waits};
 
 use crate::fault::FrameFault;
 use crate::frame::{Frame, FrameCut};
@@ -67,11 +67,11 @@ fn is_rest(bytes: &[u8]) -> bool
 }
 
 /// What stands in front of the bytes behind the lengths of a token and of the rest.
-#[tactic(auto, unfolding(crate::specs::FrameReading::outcome_behind))]
+#[tactic(auto, unfolding(crate::specs::FrameReading::cut_value_behind))]
 fn cut_behind(token: usize, size: usize, bytes: &[u8]) -> FrameCut<'_>
     requires token { token ≤ 8 }
     requires size { size ≤ 4096 }
-    ensures cut { outcome_of result ≡ outcome_behind token size bytes.now }
+    ensures cut { cut_value result ≡ cut_value_behind token size bytes.now }
     ensures length { IfFrame result (λ frame. frame.length ≡ length (frame_bytes (frame_value frame))) }
 {
     let Some((code, bytes)) = bytes.split_first() else {
@@ -96,7 +96,7 @@ fn cut_behind(token: usize, size: usize, bytes: &[u8]) -> FrameCut<'_>
 /// What stands at the front of the bytes, with the length of a frame.
 #[tactic(auto, unfolding(crate::specs::FrameReading::frame_at, crate::specs::FrameReading::with_length))]
 fn cut_front(bytes: &[u8]) -> FrameCut<'_>
-    ensures cut { outcome_of result ≡ frame_at bytes.now }
+    ensures cut { cut_value result ≡ frame_at bytes.now }
     ensures length { IfFrame result (λ frame. frame.length ≡ length (frame_bytes (frame_value frame))) }
 {
     let Some((first, bytes)) = bytes.split_first() else {
@@ -116,12 +116,12 @@ fn cut_front(bytes: &[u8]) -> FrameCut<'_>
 }
 
 /// What stands at the front of the bytes that are held.
-pub(crate) fn cut_held(held: &[u8]) -> FrameCut<'_>
-    ensures cut { outcome_of result ≡ frame_at held.now }
-    ensures begins { IfFrame result (λ frame. BeginsWith held.now (frame_value frame) (drop frame.length held.now)) }
+pub(crate) fn cut_buffered(buffered: &[u8]) -> FrameCut<'_>
+    ensures cut { cut_value result ≡ frame_at buffered.now }
+    ensures begins { IfFrame result (λ frame. BeginsWith buffered.now (frame_value frame) (drop frame.length buffered.now)) }
     ensures length { IfFrame result (λ frame. frame.length ≡ length (frame_bytes (frame_value frame))) }
-    ensures size { IfFrame result (λ frame. (0 < frame.length) × (frame.length ≤ length held.now)) }
-    ensures room { outcome_of result ≡ waits → length held.now < 4108 }
+    ensures size { IfFrame result (λ frame. (0 < frame.length) × (frame.length ≤ length buffered.now)) }
+    ensures room { cut_value result ≡ waits → length buffered.now < 4108 }
 {
-    cut_front(held)
+    cut_front(buffered)
 }

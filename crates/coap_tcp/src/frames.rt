@@ -1,15 +1,15 @@
 ghost use Rattle.std.specs.Prelude.{◌≡◌, ◌<◌, ◌≤◌, ◌-◌, ◌++◌, [], length, min, take, drop, IfOk};
 ghost use Rattle.coap_tcp.specs.Frames.{BeginsWith, frame_bytes};
-ghost use Rattle.coap_tcp.specs.FrameReading.{IfFrame, frame_at, frame_value, outcome_of, waits};
+ghost use Rattle.coap_tcp.specs.FrameReading.{IfFrame, frame_at, frame_value, cut_value, waits};
 
-use crate::cutting::cut_held;
+use crate::cutting::cut_buffered;
 use crate::frame::FrameCut;
 use dots_lists::NoMemory;
 use std::alloc::Global;
 use std::marker::Model;
 
 /// The greatest number of bytes that are held.
-const GREATEST_HELD: usize = 8_192;
+const GREATEST_BUFFERED: usize = 8_192;
 
 /// The bytes of a connection that came and aren't taken yet, at most 8,192. The longest frame has 4,108.
 #[derive(Drop)]
@@ -32,7 +32,7 @@ impl Frames {
     pub fn new(alloc: Global) -> Result<Frames, NoMemory>
         ensures { IfOk result (λ frames. frames ≡ []) }
     {
-        let bytes = Vec::with_capacity(alloc, GREATEST_HELD)?;
+        let bytes = Vec::with_capacity(alloc, GREATEST_BUFFERED)?;
         Ok(Frames { bytes })
     }
 
@@ -42,7 +42,7 @@ impl Frames {
         ensures held { self.new ≡ self.old ++ take result piece.now }
         ensures bound { length self.new ≤ 8192 }
     {
-        let count = piece.len().min(GREATEST_HELD - self.bytes.len());
+        let count = piece.len().min(GREATEST_BUFFERED - self.bytes.len());
         self.bytes.extend_from_slice(&piece[..count]).unwrap();
         count
     }
@@ -51,15 +51,15 @@ impl Frames {
     ///
     /// It looks at no more than the header where the frame isn't there whole, and else goes through the options once.
     pub fn cut<'a>(&'a self) -> FrameCut<'a>
-        ensures cut { outcome_of result ≡ frame_at self.now }
+        ensures cut { cut_value result ≡ frame_at self.now }
         // A frame is spelled at the front of what is held.
         ensures begins { IfFrame result (λ frame. BeginsWith self.now (frame_value frame) (drop frame.length self.now)) }
         ensures length { IfFrame result (λ frame. frame.length ≡ length (frame_bytes (frame_value frame))) }
         ensures size { IfFrame result (λ frame. (0 < frame.length) × (frame.length ≤ length self.now)) }
         // Where more is waited for, there is room for it.
-        ensures room { outcome_of result ≡ waits → length self.now < 4108 }
+        ensures room { cut_value result ≡ waits → length self.now < 4108 }
     {
-        cut_held(self.bytes.as_slice())
+        cut_buffered(self.bytes.as_slice())
     }
 
     /// Drops bytes from the front, those of a frame that is done. Takes no memory.

@@ -6,7 +6,7 @@ ghost use Rattle.coap_message.specs.Parts.{InRange, IsValid};
 ghost use Rattle.coap_tcp.specs.Datagrams.{frame_of, rest_of};
 ghost use Rattle.coap_tcp.specs.declared.fault.FrameFault.{FrameFault};
 ghost use Rattle.coap_tcp.specs.Frames.{AreBytes, BeginsWith, FrameValue, IsFrame, frame_bytes};
-ghost use Rattle.coap_tcp.specs.FrameReading.{FrameOutcome, frame_at, refuses, takes, waits};
+ghost use Rattle.coap_tcp.specs.FrameReading.{FrameCutValue, frame_at, refuses, takes, waits};
 ghost use Rattle.coap_tcp.specs.Streams.{AreRead, IsStream, joined};
 
 /// What is read at the front of some bytes is what is spelled there, and no bytes begin with two frames.
@@ -32,14 +32,14 @@ pub fn greatest_frame()
 
 /// The bytes of a stream have one list of frames, one end and one rest.
 pub fn one_stream()
-    ensures { (bytes : List ℕ) (frames others : List FrameValue) (end other : FrameOutcome) (rest left : List ℕ) → IsStream bytes frames end rest → IsStream bytes others other left → (frames ≡ others) × (end ≡ other) × (rest ≡ left) }
+    ensures { (bytes : List ℕ) (frames others : List FrameValue) (end other : FrameCutValue) (rest left : List ℕ) → IsStream bytes frames end rest → IsStream bytes others other left → (frames ≡ others) × (end ≡ other) × (rest ≡ left) }
 {}
 
 /// However a stream is cut into pieces, its frames and its first fault are the same.
 pub fn however_cut()
     // They are those of all of its bytes.
-    ensures whole { (held : List ℕ) (pieces : List (List ℕ)) (frames : List FrameValue) (end : FrameOutcome) → AreRead held pieces frames end → (rest : List ℕ) × IsStream (held ++ joined pieces) frames end rest }
-    ensures same { (pieces parts : List (List ℕ)) (frames others : List FrameValue) (end other : FrameOutcome) → joined pieces ≡ joined parts → AreRead [] pieces frames end → AreRead [] parts others other → (frames ≡ others) × (end ≡ other) }
+    ensures whole { (buffered : List ℕ) (pieces : List (List ℕ)) (frames : List FrameValue) (end : FrameCutValue) → AreRead buffered pieces frames end → (rest : List ℕ) × IsStream (buffered ++ joined pieces) frames end rest }
+    ensures same { (pieces parts : List (List ℕ)) (frames others : List FrameValue) (end other : FrameCutValue) → joined pieces ≡ joined parts → AreRead [] pieces frames end → AreRead [] parts others other → (frames ≡ others) × (end ≡ other) }
 {}
 
 /// A frame that was written is read again, where its rest isn't too long.

@@ -44,15 +44,15 @@ use Rattle.data_channel.specs.Within.{IsNamed, IsWithin}
 -- ---- the head
 
 -- it holds of what the head is
-abbrev Holds : {A : Type 0} → (A → Type 0) → Result A RestReject → Type 0
-Holds P (Ok a) = P a
-Holds P (Err e) = ⊤
+abbrev Meets : {A : Type 0} → (A → Type 0) → Result A RestReject → Type 0
+Meets P (Ok a) = P a
+Meets P (Err e) = ⊤
 
-behind : {A B : Type 0} (P : A → Type 0) (Q : B → Type 0) (read : Result A RestReject) (next : A → Result B RestReject) → Holds P read → ((a : A) → P a → Holds Q (next a)) → Holds Q (heads.◌>>=◌ read next)
+behind : {A B : Type 0} (P : A → Type 0) (Q : B → Type 0) (read : Result A RestReject) (next : A → Result B RestReject) → Meets P read → ((a : A) → P a → Meets Q (next a)) → Meets Q (heads.◌>>=◌ read next)
 behind P Q (Ok a) next holds leads = leads a holds
 behind P Q (Err e) next holds leads = tt
 
-behind_any : {A B : Type 0} (Q : B → Type 0) (read : Result A RestReject) (next : A → Result B RestReject) → ((a : A) → Holds Q (next a)) → Holds Q (heads.◌>>=◌ read next)
+behind_any : {A B : Type 0} (Q : B → Type 0) (read : Result A RestReject) (next : A → Result B RestReject) → ((a : A) → Meets Q (next a)) → Meets Q (heads.◌>>=◌ read next)
 behind_any Q (Ok a) next leads = leads a
 behind_any Q (Err e) next leads = tt
 
@@ -81,17 +81,17 @@ abbrev HeadWithin : Head → Type 0
 HeadWithin (Plain asked) = Within asked
 HeadWithin (Wants asks) = NamedWanted asks
 
-checked : (name : List ℕ) (test : Bool) → is_name name ≡ test → Holds Named (cond test (Ok name) (Err reject.BadName))
+checked : (name : List ℕ) (test : Bool) → is_name name ≡ test → Meets Named (cond test (Ok name) (Err reject.BadName))
 checked name true good = good
 checked name false bad = tt
 
-path_named : (segment : List ℕ) → Holds Named (name_in_path segment)
+path_named : (segment : List ℕ) → Meets Named (name_in_path segment)
 path_named segment = checked (percent_decode segment) (is_name (percent_decode segment)) refl
 
-resource_named : (place : Place) → Holds NamedResource (resource_of place)
+resource_named : (place : Place) → Meets NamedResource (resource_of place)
 resource_named place = by_kind place.kind
   where
-    by_kind : (k : Kind) → Holds NamedResource (resource_of (record { kind = k; client = place.client; name = place.name }))
+    by_kind : (k : Kind) → Meets NamedResource (resource_of (record { kind = k; client = place.client; name = place.name }))
     by_kind kind.Root = tt
     by_kind kind.Client = behind Named NamedResource (name_in_path place.client) (λ cuid. Ok (resource.Client cuid)) (path_named place.client) (λ cuid named. named)
     by_kind kind.Aliases = behind Named NamedResource (name_in_path place.client) (λ cuid. Ok (resource.Aliases cuid)) (path_named place.client) (λ cuid named. named)
@@ -103,7 +103,7 @@ resource_named place = by_kind place.kind
         behind Named NamedResource (name_in_path place.client) (λ cuid. heads.◌>>=◌ (name_in_path place.name) (λ name. Ok (resource.Acl cuid name))) (path_named place.client) (λ cuid named.
         behind_any NamedResource (name_in_path place.name) (λ name. Ok (resource.Acl cuid name)) (λ name. named))
 
-with_within : (sought : Resource) (asked : Option Verb) → NamedResource sought → Holds HeadWithin (head_with sought asked)
+with_within : (sought : Resource) (asked : Option Verb) → NamedResource sought → Meets HeadWithin (head_with sought asked)
 with_within resource.Root None named = tt
 with_within resource.Root (Some verb.Get) named = tt
 with_within resource.Root (Some verb.Put) named = tt
@@ -135,7 +135,7 @@ with_within (resource.Acl cuid name) (Some verb.Put) named = named
 with_within (resource.Acl cuid name) (Some verb.Post) named = tt
 with_within (resource.Acl cuid name) (Some verb.Delete) named = named
 
-at_within : (found : Option Place) (asked : Option Verb) (query : Bool) → Holds HeadWithin (head_at found asked query)
+at_within : (found : Option Place) (asked : Option Verb) (query : Bool) → Meets HeadWithin (head_at found asked query)
 at_within found asked query =
     behind_any HeadWithin (ok_or found reject.NotFound) _ (λ place.
     behind NamedResource HeadWithin (resource_of place) _ (resource_named place) (λ sought named.
@@ -234,7 +234,7 @@ answer_within asks media body asked named is = by_media (is_yang_json media) is
     by_media true is = json_within asks is.0 asked named is.2
     by_media false is = absurd (cc)
 
-head_within : (head : Result Head RestReject) (media : Option (List ℕ)) (body : List ℕ) (asked : RestRequest) → Holds HeadWithin head → ByHead head media body (Ok asked) → IsWithin asked
+head_within : (head : Result Head RestReject) (media : Option (List ℕ)) (body : List ℕ) (asked : RestRequest) → Meets HeadWithin head → ByHead head media body (Ok asked) → IsWithin asked
 head_within (Err e) media body asked within is = absurd (cc)
 head_within (Ok (Plain other)) media body asked within is = subst (λ (r : RestRequest). IsWithin r) (sym (ok_same asked other is)) within
 head_within (Ok (Wants asks)) media body asked within is = answer_within asks media body asked within is
@@ -242,4 +242,4 @@ head_within (Ok (Wants asks)) media body asked within is = answer_within asks me
 pub asked_within : (message : Request) (asked : RestRequest) → Rest message (Ok asked) → IsWithin asked
 asked_within message asked is =
     let at = is.1 in
-    head_within is.0 message.media message.body asked (subst (λ (h : Result Head RestReject). Holds HeadWithin h) (sym at.5) (at_within at.2 (verb_in message.method) _)) is.2
+    head_within is.0 message.media message.body asked (subst (λ (h : Result Head RestReject). Meets HeadWithin h) (sym at.5) (at_within at.2 (verb_in message.method) _)) is.2

@@ -1,7 +1,7 @@
 //! Taking the bytes of a stream and cutting its front, again and again.
 
 ghost use Rattle.std.specs.Prelude.{◌≡◌, ◌<◌, ◌-◌, ◌++◌, length, take, drop, IfOk, IfErr};
-ghost use Rattle.http_cut.specs.Requests.{Outcome, IsCut, refuses};
+ghost use Rattle.http_cut.specs.Requests.{CutValue, IsCut, refuses};
 ghost use Rattle.dots_bench.specs.Fronts.{size_in};
 
 use anyhow::{Result, ensure};
@@ -35,7 +35,7 @@ pub fn repeat_cut(alloc: Global, copies: [&[u8]; 2], times: u64) -> Result<u64> 
 
 /// How many bytes the request at the front has; 0 where it isn't there whole.
 fn cut_front(stream: &Stream, room: &mut HeadRoom) -> Result<u64, HttpFault>
-    ensures found { IfOk result (λ size. (outcome : Outcome) × IsCut stream.now outcome × (size ≡ size_in outcome)) }
+    ensures found { IfOk result (λ size. (as_cut : CutValue) × IsCut stream.now as_cut × (size ≡ size_in as_cut)) }
     ensures refused { IfErr result (λ fault. IsCut stream.now (refuses fault)) }
 {
     match stream.cut(room) {

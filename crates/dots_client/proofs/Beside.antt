@@ -6,7 +6,7 @@ use Rattle.std.proofs.lemmas.Bool.{cond-true, cond-false, ne_eqb}
 use Rattle.coap_exchange.specs.Sent.{SentValue}
 use Rattle.dots_client.specs.declared.request.Request.{Request}
 use Rattle.dots_client.specs.Client.{WaitingValue, is_of, waits_for, is_empty}
-use Rattle.dots_client.specs.Hearing.{has_token, waits_by}
+use Rattle.dots_client.specs.Receiving.{has_token, waits_by}
 use Rattle.dots_client.specs.Waiting.{pairs}
 
 abbrev pub waiting : Request → SentValue → WaitingValue

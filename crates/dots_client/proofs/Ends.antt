@@ -17,9 +17,9 @@ use Rattle.dots_client.specs.declared.heard.Heard.TheVariants as heard
 use Rattle.dots_client.specs.declared.request.Request.{Request}
 use Rattle.dots_client.specs.Answers.{GrantsMid, Says, SaysTo}
 use Rattle.dots_client.specs.Client.{ClientValue, WaitingValue}
-use Rattle.dots_client.specs.Hearing.{Answers, TellsOrLacks, waits_by, granted_row}
+use Rattle.dots_client.specs.Receiving.{Answers, YieldsOrLacks, waits_by, granted_row}
 use Rattle.dots_client.specs.Ledger.{with_row, without_row}
-use Rattle.dots_client.specs.Steps.{IsOf, Sets, Removes, Leaves}
+use Rattle.dots_client.specs.Steps.{IsOf, Sets, Removes, Drops}
 
 same_item : {A : Type 0} (x y : A) → Some x ≡ Some y → x ≡ y
 same_item x y is = cc
@@ -68,7 +68,7 @@ same_message one other a b first second is = cc
 
 -- memory runs out
 pub lacks : (client : ClientValue) (m : CoapMessage) (place now : ℕ) (request : Request) → IsOf client m place
-    → option_map (λ (x : WaitingValue). x.request) (slice_get client.waiting place) ≡ Some request → IsSome request.scope → TellsOrLacks client m now heard.NoMemory client
+    → option_map (λ (x : WaitingValue). x.request) (slice_get client.waiting place) ≡ Some request → IsSome request.scope → YieldsOrLacks client m now heard.NoMemory client
 lacks client m place now request is seen scope =
     let w = seen_there client.waiting place request seen in
     (request, subst (λ (r : Request). Answers client m r) w.2 (answers_there client m place w.0 is w.1), scope, refl)
@@ -109,10 +109,10 @@ withdrawal_said request m says = by request.scope refl says
 
 -- ---- what it does
 
-pub tells_grant : (client : ClientValue) (m : CoapMessage) (place now : ℕ) (lifetime : ℤ) (request : Request) (told : Heard) (new : ClientValue) → IsOf client m place
+pub yields_grant : (client : ClientValue) (m : CoapMessage) (place now : ℕ) (lifetime : ℤ) (request : Request) (told : Heard) (new : ClientValue) → IsOf client m place
     → option_map (λ (x : WaitingValue). x.request) (slice_get client.waiting place) ≡ Some request → Says request m (answer.Granted lifetime)
-    → Sets client place lifetime now told new → TellsOrLacks client m now told new
-tells_grant client m place now lifetime request (heard.Granted mid) new is seen says sets =
+    → Sets client place lifetime now told new → YieldsOrLacks client m now told new
+yields_grant client m place now lifetime request (heard.Granted mid) new is seen says sets =
     let w = sets.0 in
     let asked = sets.1 in
     let there = sets.2 in
@@ -130,17 +130,17 @@ tells_grant client m place now lifetime request (heard.Granted mid) new is seen 
         sets.5 ∙ ap (λ (ws : List WaitingValue). (record client { waiting = ws; ledger = with_row (granted_row mid asked lifetime now) client.ledger })) gone,
       ),
     )
-tells_grant client m place now lifetime request heard.NoMemory new is seen says sets =
-    subst (λ (k : ClientValue). TellsOrLacks client m now heard.NoMemory k) (sym sets) (lacks client m place now request is seen (grant_scope request m lifetime says))
-tells_grant client m place now lifetime request (heard.Withdrawn mid) new is seen says sets = absurd sets
-tells_grant client m place now lifetime request (heard.Refused mid code) new is seen says sets = absurd sets
-tells_grant client m place now lifetime request (heard.Beat short) new is seen says sets = absurd sets
-tells_grant client m place now lifetime request heard.Nothing new is seen says sets = absurd sets
+yields_grant client m place now lifetime request heard.NoMemory new is seen says sets =
+    subst (λ (k : ClientValue). YieldsOrLacks client m now heard.NoMemory k) (sym sets) (lacks client m place now request is seen (grant_scope request m lifetime says))
+yields_grant client m place now lifetime request (heard.Withdrawn mid) new is seen says sets = absurd sets
+yields_grant client m place now lifetime request (heard.Refused mid code) new is seen says sets = absurd sets
+yields_grant client m place now lifetime request (heard.Beat short) new is seen says sets = absurd sets
+yields_grant client m place now lifetime request heard.Nothing new is seen says sets = absurd sets
 
-pub tells_withdrawal : (client : ClientValue) (m : CoapMessage) (place now : ℕ) (request : Request) (told : Heard) (new : ClientValue) → IsOf client m place
+pub yields_withdrawal : (client : ClientValue) (m : CoapMessage) (place now : ℕ) (request : Request) (told : Heard) (new : ClientValue) → IsOf client m place
     → option_map (λ (x : WaitingValue). x.request) (slice_get client.waiting place) ≡ Some request → Says request m answer.Withdrawn
-    → Removes client place told new → TellsOrLacks client m now told new
-tells_withdrawal client m place now request (heard.Withdrawn mid) new is seen says removes =
+    → Removes client place told new → YieldsOrLacks client m now told new
+yields_withdrawal client m place now request (heard.Withdrawn mid) new is seen says removes =
     let w = removes.0 in
     let there = removes.1 in
     let own = request_there client.waiting place w request seen there in
@@ -150,11 +150,11 @@ tells_withdrawal client m place now request (heard.Withdrawn mid) new is seen sa
       answers_there client m place w is there,
       (removes.2, said.0, said.1, removes.3 ∙ ap (λ (ws : List WaitingValue). (record client { waiting = ws; ledger = without_row mid client.ledger })) gone),
     )
-tells_withdrawal client m place now request heard.NoMemory new is seen says removes = absurd removes
-tells_withdrawal client m place now request (heard.Granted mid) new is seen says removes = absurd removes
-tells_withdrawal client m place now request (heard.Refused mid code) new is seen says removes = absurd removes
-tells_withdrawal client m place now request (heard.Beat short) new is seen says removes = absurd removes
-tells_withdrawal client m place now request heard.Nothing new is seen says removes = absurd removes
+yields_withdrawal client m place now request heard.NoMemory new is seen says removes = absurd removes
+yields_withdrawal client m place now request (heard.Granted mid) new is seen says removes = absurd removes
+yields_withdrawal client m place now request (heard.Refused mid code) new is seen says removes = absurd removes
+yields_withdrawal client m place now request (heard.Beat short) new is seen says removes = absurd removes
+yields_withdrawal client m place now request heard.Nothing new is seen says removes = absurd removes
 
 refused_grant : (request : Request) (m : CoapMessage) → Says request m answer.Refused → (asked : Asked) (lifetime : ℤ) → request.scope ≡ Some asked → GrantsMid request.mid m lifetime → ⊥
 refused_grant request m says asked lifetime scope grants = subst (λ (s : Option Asked). SaysTo s request.mid m answer.Refused) scope says lifetime grants
@@ -162,10 +162,10 @@ refused_grant request m says asked lifetime scope grants = subst (λ (s : Option
 refused_withdrawal : (request : Request) (m : CoapMessage) → Says request m answer.Refused → request.scope ≡ None → SaysTo None request.mid m answer.Refused
 refused_withdrawal request m says scope = subst (λ (s : Option Asked). SaysTo s request.mid m answer.Refused) scope says
 
-pub tells_refusal : (client : ClientValue) (m : CoapMessage) (place now : ℕ) (request : Request) (told : Heard) (new : ClientValue) → IsOf client m place
+pub yields_refusal : (client : ClientValue) (m : CoapMessage) (place now : ℕ) (request : Request) (told : Heard) (new : ClientValue) → IsOf client m place
     → option_map (λ (x : WaitingValue). x.request) (slice_get client.waiting place) ≡ Some request → Says request m answer.Refused
-    → Leaves client place m.code told new → TellsOrLacks client m now told new
-tells_refusal client m place now request (heard.Refused mid code) new is seen says leaves =
+    → Drops client place m.code told new → YieldsOrLacks client m now told new
+yields_refusal client m place now request (heard.Refused mid code) new is seen says leaves =
     let w = leaves.0 in
     let there = leaves.1 in
     let own = request_there client.waiting place w request seen there in
@@ -181,8 +181,8 @@ tells_refusal client m place now request (heard.Refused mid code) new is seen sa
         leaves.4 ∙ ap (λ (ws : List WaitingValue). (record client { waiting = ws })) gone,
       ),
     )
-tells_refusal client m place now request heard.NoMemory new is seen says leaves = absurd leaves
-tells_refusal client m place now request (heard.Granted mid) new is seen says leaves = absurd leaves
-tells_refusal client m place now request (heard.Withdrawn mid) new is seen says leaves = absurd leaves
-tells_refusal client m place now request (heard.Beat short) new is seen says leaves = absurd leaves
-tells_refusal client m place now request heard.Nothing new is seen says leaves = absurd leaves
+yields_refusal client m place now request heard.NoMemory new is seen says leaves = absurd leaves
+yields_refusal client m place now request (heard.Granted mid) new is seen says leaves = absurd leaves
+yields_refusal client m place now request (heard.Withdrawn mid) new is seen says leaves = absurd leaves
+yields_refusal client m place now request (heard.Beat short) new is seen says leaves = absurd leaves
+yields_refusal client m place now request heard.Nothing new is seen says leaves = absurd leaves

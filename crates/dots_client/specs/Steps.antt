@@ -7,7 +7,7 @@ use Rattle.coap_message.specs.Message.{CoapMessage}
 use Rattle.dots_client.specs.declared.heard.Heard.{Heard}
 use Rattle.dots_client.specs.declared.heard.Heard.TheVariants as heard
 use Rattle.dots_client.specs.Client.{ClientValue, WaitingValue}
-use Rattle.dots_client.specs.Hearing.{waits_by, granted_row}
+use Rattle.dots_client.specs.Receiving.{waits_by, granted_row}
 use Rattle.dots_client.specs.Ledger.{with_row, without_row}
 
 -- the message answers the request at this place
@@ -33,7 +33,7 @@ Removes old place (heard.Withdrawn mid) new =
     × (new ≡ record (without_place old place) { ledger = without_row mid old.ledger })
 Removes old place _ new = ⊥
 
-abbrev pub Leaves : ClientValue → ℕ → ℕ → Heard → ClientValue → Type 0
-Leaves old place code (heard.Refused mid other) new =
+abbrev pub Drops : ClientValue → ℕ → ℕ → Heard → ClientValue → Type 0
+Drops old place code (heard.Refused mid other) new =
     (w : WaitingValue) × (slice_get old.waiting place ≡ Some w) × (mid ≡ w.request.mid) × (other ≡ code) × (new ≡ without_place old place)
-Leaves old place code _ new = ⊥
+Drops old place code _ new = ⊥

@@ -2,7 +2,7 @@
 
 ghost use Rattle.std.specs.Prelude.{◌≡◌, ◌≢◌, true, false};
 ghost use Rattle.dots_heads.specs.Options.{value_of};
-ghost use Rattle.dots_client.specs.Hearing.{IsBeat, is_spent_hop, beat_code, beat_answer};
+ghost use Rattle.dots_client.specs.Receiving.{IsBeat, is_spent_hop, beat_code, beat_answer};
 
 use crate::short::Short;
 use coap_message::codes::{BAD_REQUEST, CHANGED, PUT};

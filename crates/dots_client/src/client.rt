@@ -7,8 +7,8 @@ ghost use Rattle.agent_messages.specs.Requests.{asking, withdrawing};
 ghost use Rattle.dots_client.specs.declared.client.TheConstants.{MAX_MID, MAX_ROOM};
 ghost use Rattle.dots_client.specs.declared.request.Request.{Request};
 ghost use Rattle.dots_client.specs.Client.{WaitingValue, IsKnown, is_empty, Faults, ask_fault, mid_for, mid_after, new_request, bytes_for, asked_at, tick_answer, tick_after};
-ghost use Rattle.dots_client.specs.Hearing.{Hears, Answers, TellsOrLacks};
-ghost use Rattle.dots_client.specs.Steps.{Sets, Removes, Leaves, IsOf};
+ghost use Rattle.dots_client.specs.Receiving.{Receives, Answers, YieldsOrLacks};
+ghost use Rattle.dots_client.specs.Steps.{Sets, Removes, Drops, IsOf};
 
 use crate::answers::{Answer, answer_of};
 use crate::ask::{Ask, AskFault};
@@ -142,7 +142,7 @@ impl ClientCore {
 
     /// Takes a datagram of the server at the time `now`, in seconds.
     pub fn got(&mut self, bytes: &[u8], now: u64) -> Heard
-        ensures { Hears self.old bytes.now now result self.new }
+        ensures { Receives self.old bytes.now now result self.new }
     {
         let Ok(message) = decode(bytes) else {
             return Heard::Nothing;
@@ -272,7 +272,7 @@ impl ClientCore {
     /// Takes the answer to the request at a place.
     fn answered(&mut self, place: usize, message: &Message<'_>, now: u64) -> Heard
         requires { IsOf self.old message.now place }
-        ensures { TellsOrLacks self.old message.now now result self.new }
+        ensures { YieldsOrLacks self.old message.now now result self.new }
     {
         match answer_of(self.alloc, self.waiting.request(place), message) {
             Ok(Answer::Granted { lifetime }) => self.granted(place, lifetime, now),
@@ -318,7 +318,7 @@ impl ClientCore {
     /// Ends the request at a place.
     fn refused(&mut self, place: usize, code: u8) -> Heard
         requires { place < length self.old.waiting }
-        ensures { Leaves self.old place code result self.new }
+        ensures { Drops self.old place code result self.new }
     {
         let Request { mid, .. } = self.waiting.end(place);
         Heard::Refused { mid, code }

@@ -7,7 +7,7 @@ ghost use Rattle.std.specs.List.{list_any, remove};
 ghost use Rattle.coap_exchange.specs.Firsts.{replace_first};
 ghost use Rattle.coap_exchange.specs.Sent.{given};
 ghost use Rattle.dots_client.specs.Client.{is_new, handed, is_of, waits_for, is_empty, due_answer, due_after, repeat_answer, repeat_after};
-ghost use Rattle.dots_client.specs.Hearing.{has_token, waits_by};
+ghost use Rattle.dots_client.specs.Receiving.{has_token, waits_by};
 ghost use Rattle.dots_client.specs.Waiting.{pairs};
 
 use crate::request::Request;

@@ -4,7 +4,7 @@ ghost use Rattle.std.specs.Prelude.{◌≡◌, IfOk};
 ghost use Rattle.dots_registry.specs.RegistryValues.{time_of};
 ghost use Rattle.rest_answers.specs.declared.answer.RestAnswer.TheVariants as answers;
 ghost use Rattle.rest_answers.specs.Changes.{entry_of};
-ghost use Rattle.rest_answers.specs.Replies.{outcome_reply};
+ghost use Rattle.rest_answers.specs.Replies.{decision_reply};
 ghost use Rattle.rest_answers.specs.Answers.{changing};
 
 use crate::desk::Desk;
@@ -12,8 +12,8 @@ use data_channel::RestRequest;
 use dots_history::Entry;
 use dots_lists::NoMemory;
 use installed_filters::Staged;
-use rest_answers::{Caller, RestAnswer, RestReply, entry_of, outcome_reply};
-use rest_judging::RestOutcome;
+use rest_answers::{Caller, RestAnswer, RestReply, entry_of, decision_reply};
+use rest_judging::RestDecision;
 
 /// The answer to a request that is accepted with this outcome.
 pub fn accept(
@@ -21,11 +21,11 @@ pub fn accept(
     caller: Caller,
     close: bool,
     request: RestRequest,
-    outcome: RestOutcome,
+    decision: RestDecision,
 ) -> Result<RestAnswer<Staged>, NoMemory>
-    ensures { IfOk result (λ answer. answer ≡ changing (outcome_reply close request outcome) (entry_of (time_of desk.now.registry.now) caller request)) }
+    ensures { IfOk result (λ answer. answer ≡ changing (decision_reply close request decision) (entry_of (time_of desk.now.registry.now) caller request)) }
 {
-    match outcome_reply(desk.alloc, close, &request, outcome) {
+    match decision_reply(desk.alloc, close, &request, decision) {
         Ok(reply) => accept_with(desk, caller, reply, request),
         Err(fault) => Err(without(request, fault)),
     }

@@ -12,7 +12,7 @@ ghost use Rattle.dots_laws.specs.Held.{aliases_of, acls_of};
 ghost use Rattle.dots_registry.specs.RegistryValues.{Represents, IsOf, time_of, domains_of};
 ghost use Rattle.rest_answers.specs.declared.answer.RestAnswer.TheVariants as answers;
 ghost use Rattle.rest_answers.specs.Known.{client_for, known_of};
-ghost use Rattle.rest_answers.specs.Replies.{content_reply, outcome_reply, unavailable};
+ghost use Rattle.rest_answers.specs.Replies.{content_reply, decision_reply, unavailable};
 ghost use Rattle.rest_answers.specs.Answers.{showing, telling, body_of, rest_answer, Answers};
 ghost use Rattle.rest_judging.specs.Asking.{verb_of, kind_of};
 ghost use Rattle.dots_data.specs.Accepting.{IsInUse, CanCarryOut};
@@ -26,8 +26,8 @@ use dots_lists::{Bytes, NoMemory};
 use http_cut::HttpRequest;
 use installed_filters::Staged;
 use json_room::JsonRoom;
-use rest_answers::{Caller, RestAnswer, content_reply, outcome_reply, rejection, unavailable};
-use rest_judging::{RestOutcome, judge, kind_of, verb_of};
+use rest_answers::{Caller, RestAnswer, content_reply, decision_reply, rejection, unavailable};
+use rest_judging::{RestDecision, judge, kind_of, verb_of};
 use std::alloc::Global;
 
 /// What is answered to a message of a client peer of the settings, of which the registry is. The room serves one message after the other.
@@ -83,34 +83,34 @@ fn decide(
         → IfOk result (λ answer. answer ≡ rest_answer (known_of desk.now.settings.now (time_of desk.now.registry.now) entries caller request) caller close request) }
 {
     let facts = facts(desk, caller, &request);
-    let outcome = judge(verb_of(&request), kind_of(&request), facts);
-    if outcome.is_accepted() {
-        return accept(desk, caller, close, request, outcome);
+    let decision = judge(verb_of(&request), kind_of(&request), facts);
+    if decision.is_accepted() {
+        return accept(desk, caller, close, request, decision);
     }
-    let answer = tell(desk, caller, close, &request, outcome);
+    let answer = answer_for(desk, caller, close, &request, decision);
     drop(request);
     answer
 }
 
 /// What is answered to a request on which this is decided, which changes nothing.
-fn tell(
+fn answer_for(
     desk: &Desk<'_>,
     caller: Caller,
     close: bool,
     request: &RestRequest,
-    outcome: RestOutcome,
+    decision: RestDecision,
 ) -> Result<RestAnswer<Staged>, NoMemory>
     ensures { (entries : List Entry) → Represents desk.now.registry.now entries
-        → IfOk result (λ answer. answer ≡ telling close request.now (body_of request.now (aliases_of (client_for caller request.now) (held entries)) (acls_of (client_for caller request.now) (held entries))) outcome) }
+        → IfOk result (λ answer. answer ≡ telling close request.now (body_of request.now (aliases_of (client_for caller request.now) (held entries)) (acls_of (client_for caller request.now) (held entries))) decision) }
 {
-    match outcome {
-        RestOutcome::Shown => show(desk, caller, close, request),
-        _ => tell_outcome(desk.alloc, close, request, outcome),
+    match decision {
+        RestDecision::Retrieved => retrieve(desk, caller, close, request),
+        _ => decision_answer(desk.alloc, close, request, decision),
     }
 }
 
 /// What is answered to a GET of what is there.
-fn show(
+fn retrieve(
     desk: &Desk<'_>,
     caller: Caller,
     close: bool,
@@ -120,36 +120,36 @@ fn show(
         → IfOk result (λ answer. answer ≡ showing close request.now (body_of request.now (aliases_of (client_for caller request.now) (held entries)) (acls_of (client_for caller request.now) (held entries)))) }
 {
     match body_of(desk.alloc, desk.registry, caller, request)? {
-        Some(body) => show_body(desk.alloc, close, body),
-        None => tell_outcome(desk.alloc, close, request, RestOutcome::Absent),
+        Some(body) => body_answer(desk.alloc, close, body),
+        None => decision_answer(desk.alloc, close, request, RestDecision::Absent),
     }
 }
 
 /// A reply without a body, which changes nothing.
-fn tell_outcome(
+fn decision_answer(
     alloc: Global,
     close: bool,
     request: &RestRequest,
-    outcome: RestOutcome,
+    decision: RestDecision,
 ) -> Result<RestAnswer<Staged>, NoMemory>
-    ensures { IfOk result (λ answer. answer ≡ answers.Reply (outcome_reply close request.now outcome)) }
+    ensures { IfOk result (λ answer. answer ≡ answers.Reply (decision_reply close request.now decision)) }
 {
-    let reply = outcome_reply(alloc, close, request, outcome)?;
+    let reply = decision_reply(alloc, close, request, decision)?;
     Ok(RestAnswer::Reply(reply))
 }
 
 /// A reply with this body.
-fn show_body(alloc: Global, close: bool, body: RestBody) -> Result<RestAnswer<Staged>, NoMemory>
+fn body_answer(alloc: Global, close: bool, body: RestBody) -> Result<RestAnswer<Staged>, NoMemory>
     ensures { IfOk result (λ answer. answer ≡ answers.LongReply (content_reply close (compact_text (body_data body)))) }
 {
-    match shown(alloc, close, &body) {
+    match body_reply(alloc, close, &body) {
         Ok(reply) => Ok(RestAnswer::LongReply(reply)),
         Err(fault) => Err(fault),
     }
 }
 
 /// The bytes of a reply with this body.
-fn shown(alloc: Global, close: bool, body: &RestBody) -> Result<Bytes, NoMemory>
+fn body_reply(alloc: Global, close: bool, body: &RestBody) -> Result<Bytes, NoMemory>
     ensures { IfOk result (λ reply. reply ≡ content_reply close (compact_text (body_data body.now))) }
 {
     let text = body_text(alloc, body)?;

@@ -54,10 +54,10 @@ pub fn front(
     requires acts { may_act desk.now.settings.now (role_of desk.now.settings.now caller.peer) caller.domain ≡ true }
     requires there { is_some (conn_at place table.now) ≡ true }
     ensures stands { (line : Line) (entries : List Entry) → line_at place table.now ≡ Some line → Represents desk.now.registry.now entries
-        → IsFront desk.now.settings.now (time_of desk.now.registry.now) entries caller line.held result }
+        → IsFront desk.now.settings.now (time_of desk.now.registry.now) entries caller line.buffered result }
     // Where more is waited for, there is room for it.
-    ensures room { (line : Line) → line_at place table.now ≡ Some line → is_waiting result ≡ true → length line.held < 16384 }
-    ensures size { (line : Line) → line_at place table.now ≡ Some line → HasSize line.held result }
+    ensures room { (line : Line) → line_at place table.now ≡ Some line → is_waiting result ≡ true → length line.buffered < 16384 }
+    ensures size { (line : Line) → line_at place table.now ≡ Some line → HasSize line.buffered result }
     ensures ready { FrontCanBeCarriedOut desk.now.settings.now desk.now.registry.now result }
 {
     match table.stream(place).cut(heads) {

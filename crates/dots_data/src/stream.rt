@@ -1,12 +1,12 @@
 ghost use Rattle.std.specs.Prelude.{◌≡◌, ◌<◌, ◌≤◌, [], length, IfOk};
-ghost use Rattle.http_cut.specs.Requests.{IsCut, outcome_of, waits};
+ghost use Rattle.http_cut.specs.Requests.{IsCut, cut_value, waits};
 ghost use Rattle.http_cut.specs.Streams.{IfRequest};
 
 use dots_lists::NoMemory;
 use http_cut::{Cut, HeadRoom, Stream};
 use std::alloc::Global;
 use std::marker::Model;
-use stream_table::Holds;
+use stream_table::Buffers;
 
 /// The bytes of a connection of the data channel that came and aren't answered yet, at most 16,384: a head and a body of 8,192 bytes each.
 #[derive(Drop)]
@@ -19,23 +19,23 @@ impl Model for RestStream {
 
     ghost Value = { List ℕ };
 
-    ghost view = { λ held. held.stream };
+    ghost view = { λ buffered. buffered.stream };
 }
 
 impl RestStream {
     /// What stands at the front of the bytes that are held (RFC 9112, section 2.1). Takes no memory.
     pub fn cut<'a>(&'a self, room: &mut HeadRoom) -> Cut<'a>
-        ensures cut { IsCut self.now (outcome_of result) }
+        ensures cut { IsCut self.now (cut_value result) }
         // Where more is waited for, there is room for it.
-        ensures room { outcome_of result ≡ waits → length self.now < 16384 }
+        ensures room { cut_value result ≡ waits → length self.now < 16384 }
         ensures size { IfRequest result (λ request. (0 < request.length) × (request.length ≤ length self.now)) }
     {
         self.stream.cut(room)
     }
 }
 
-impl Holds for RestStream {
-    ghost bytes = { λ held. held };
+impl Buffers for RestStream {
+    ghost bytes = { λ buffered. buffered };
 
     ghost most = { 16384 };
 

@@ -179,7 +179,7 @@ impl Connection {
         match read_once(&mut self.stream, &mut self.came, into) {
             Answer::Went(0) => Piece::Ended,
             Answer::Went(count) => {
-                self.hear(now);
+                self.note_bytes(now);
                 Piece::Bytes(count)
             }
             Answer::Nothing => {
@@ -191,7 +191,7 @@ impl Connection {
         }
     }
 
-    fn hear(&mut self, now: Duration)
+    fn note_bytes(&mut self, now: Duration)
         ensures { self.new ≡ record self.old { moved = now; asked = Some (unwrap_or self.old.asked now) } }
     {
         self.moved = now;

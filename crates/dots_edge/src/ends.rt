@@ -270,7 +270,7 @@ impl Ends {
                 Received::Datagram { len, from, via } if len <= MAX_EVENT_BYTES => {
                     let datagram = &self.datagram.as_slice()[..len];
                     into[..len].copy_from_slice(datagram);
-                    let from = self.peers.hear(from, via, datagram);
+                    let from = self.peers.note_datagram(from, via, datagram);
                     return Ok(Some(What::Datagram { from, len }));
                 }
                 Received::Nothing => {

@@ -8,7 +8,7 @@ ghost use Rattle.dots_edge.specs.Address.{key_of_ip};
 ghost use Rattle.host_file.specs.HostLine.{line_value};
 ghost use Rattle.dots_edge.specs.Peers.{whose, or_stranger};
 ghost use Rattle.peer_endpoints.specs.Headers.{head_in};
-ghost use Rattle.dots_edge.specs.Ways.{heard, after_heard_by, after_sent_by, way_by};
+ghost use Rattle.dots_edge.specs.Ways.{way_from, after_received_by, after_sent_by, way_by};
 
 use crate::address::{key_of_ip, socket_address};
 use dots_lists::NoMemory;
@@ -93,11 +93,11 @@ impl Peers {
     }
 
     /// The peer whose address it is. Its datagram came from there to the socket of this place.
-    pub fn hear(&mut self, from: SocketAddr, via: usize, bytes: &[u8]) -> u32
+    pub fn note_datagram(&mut self, from: SocketAddr, via: usize, bytes: &[u8]) -> u32
         ensures whose { result ≡ or_stranger (get nat_cmp self.old.numbers (key_of_ip (socket_ip from))) }
         ensures kept { self.new.numbers ≡ self.old.numbers }
         ensures heard { get nat_cmp self.new.endpoints result
-            ≡ after_heard_by (heard from via) (head_in bytes.now) (get nat_cmp self.old.endpoints result) }
+            ≡ after_received_by (way_from from via) (head_in bytes.now) (get nat_cmp self.old.endpoints result) }
         ensures others { (other : ℕ) → (result == other) ≡ false → get nat_cmp self.new.endpoints other ≡ get nat_cmp self.old.endpoints other }
     {
         let number = self.number_of(from);
@@ -106,7 +106,7 @@ impl Peers {
                 to: from,
                 via: Some(via),
             };
-            endpoints.hear(way, bytes);
+            endpoints.receive(way, bytes);
         }
         number
     }

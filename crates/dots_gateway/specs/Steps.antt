@@ -19,9 +19,9 @@ Gives (Err fault.NoMemory) said = IsTrue (may_lack said)
 Gives answer said = answer ≡ said
 
 -- and an exchange that is new waits
-abbrev pub Leaves : ExchangesValue → List ℕ → Said → ExchangesValue → Type 0
-Leaves e datagram (Ok (passed.Forward bytes (Some exchange))) new = new ≡ with_one exchange datagram e
-Leaves e datagram _ new = new ≡ e
+abbrev pub NowWaits : ExchangesValue → List ℕ → Said → ExchangesValue → Type 0
+NowWaits e datagram (Ok (passed.Forward bytes (Some exchange))) new = new ≡ with_one exchange datagram e
+NowWaits e datagram _ new = new ≡ e
 
 -- no exchange is new
 abbrev pub IsOld : Said → Type 0
@@ -42,10 +42,10 @@ abbrev pub said_to : ℕ → List ℕ → Passed
 said_to peer bytes = passed.Reply peer bytes
 
 -- what is done with a datagram of the upstream, unless memory ran out
-abbrev pub Tells : Result Passed NoMemory → Passed → Type 0
-Tells (Ok answer) said = answer ≡ said
-Tells (Err lack) said = IsTrue (takes_memory said)
+abbrev pub Yields : Result Passed NoMemory → Passed → Type 0
+Yields (Ok answer) said = answer ≡ said
+Yields (Err lack) said = IsTrue (takes_memory said)
 
-abbrev pub TellsOf : GatewayValue → List ℕ → Result Passed NoMemory → Type 0
-TellsOf g datagram (Ok answer) = Downs g datagram answer
-TellsOf g datagram (Err lack) = (said : Passed) × Downs g datagram said × IsTrue (takes_memory said)
+abbrev pub YieldsOf : GatewayValue → List ℕ → Result Passed NoMemory → Type 0
+YieldsOf g datagram (Ok answer) = Downs g datagram answer
+YieldsOf g datagram (Err lack) = (said : Passed) × Downs g datagram said × IsTrue (takes_memory said)

@@ -5,7 +5,7 @@ ghost use Rattle.dots_gateway.specs.declared.gateway.TheConstants.{MAX_WAITING};
 ghost use Rattle.dots_gateway.specs.Exchanges.{AreApart, AreRestorable, restored, at_time};
 ghost use Rattle.dots_gateway.specs.Gateway.{gateway_at, UpOrLacks, DownOrLacks};
 ghost use Rattle.dots_gateway.specs.Routes.{routes_of};
-ghost use Rattle.dots_gateway.specs.Steps.{TellsOf};
+ghost use Rattle.dots_gateway.specs.Steps.{YieldsOf};
 
 use crate::exchange::Exchange;
 use crate::exchanges::Exchanges;
@@ -127,7 +127,7 @@ impl GatewayCore {
 
     /// What is said of a datagram of the upstream.
     fn said_of(&self, bytes: &[u8]) -> Result<Passed, NoMemory>
-        ensures { TellsOf self.now bytes.now result }
+        ensures { YieldsOf self.now bytes.now result }
     {
         let Ok(message) = decode(bytes) else {
             return Ok(Passed::Nothing);

@@ -5,7 +5,7 @@ ghost use Rattle.std.specs.List.{find};
 ghost use Rattle.coap_message.specs.Salvage.{salvaged};
 ghost use Rattle.dots_gateway.specs.Exchanges.{is_from};
 ghost use Rattle.dots_gateway.specs.Gateway.{rejected, unread, refused, same_message, came_again, passed_again, passed_first, passed_on, asked_said};
-ghost use Rattle.dots_gateway.specs.Steps.{Gives, Leaves, IsOld, is_ignored, replied};
+ghost use Rattle.dots_gateway.specs.Steps.{Gives, NowWaits, IsOld, is_ignored, replied};
 ghost use Rattle.dots_gateway.specs.WantedValues.{passage_value, CanPass};
 
 use crate::exchange::{Waiting, key_for};
@@ -91,7 +91,7 @@ pub fn ask(
     asking: &Asking<'_>,
 ) -> Result<Passed, GatewayFault>
     ensures gives { Gives result (asked_said exchanges.old asking.now.peer asking.now.domain.now asking.now.datagram.now asking.now.message.now) }
-    ensures leaves { Leaves exchanges.old asking.now.datagram.now result exchanges.new }
+    ensures leaves { NowWaits exchanges.old asking.now.datagram.now result exchanges.new }
 {
     let message = asking.message;
     if !is_request(message) {
@@ -127,7 +127,7 @@ fn pass_on(
     requires code { asking.now.message.now.code ≢ 0 }
     requires passable { CanPass passage.now }
     ensures gives { Gives result (passed_on exchanges.old asking.now.peer asking.now.domain.now asking.now.datagram.now asking.now.message.now (passage_value passage.now)) }
-    ensures leaves { Leaves exchanges.old asking.now.datagram.now result exchanges.new }
+    ensures leaves { NowWaits exchanges.old asking.now.datagram.now result exchanges.new }
 {
     if passage.hop == 1 {
         return reply(alloc, asking, HOP_LIMIT_REACHED);
@@ -194,7 +194,7 @@ fn pass_first(
     requires code { asking.now.message.now.code ≢ 0 }
     requires passable { CanPass passage.now }
     ensures gives { Gives result (passed_first exchanges.old asking.now.peer asking.now.domain.now asking.now.message.now (passage_value passage.now)) }
-    ensures leaves { Leaves exchanges.old asking.now.datagram.now result exchanges.new }
+    ensures leaves { NowWaits exchanges.old asking.now.datagram.now result exchanges.new }
 {
     if exchanges.is_full() {
         return Err(GatewayFault::TableFull);

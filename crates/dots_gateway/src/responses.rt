@@ -2,7 +2,7 @@
 
 ghost use Rattle.std.specs.Prelude.{◌≡◌, true, false, IfOk};
 ghost use Rattle.dots_gateway.specs.Gateway.{may_answer, is_response, IsBeat, beat_answer, response_said};
-ghost use Rattle.dots_gateway.specs.Steps.{Tells, said_to};
+ghost use Rattle.dots_gateway.specs.Steps.{Yields, said_to};
 
 use crate::exchanges::Exchanges;
 use crate::forwarding::answered;
@@ -28,7 +28,7 @@ pub fn is_beat(message: &Message<'_>) -> bool
 
 /// The answer to a heartbeat of the upstream.
 pub fn beat(alloc: Global, upstream: u32, message: &Message<'_>) -> Result<Passed, NoMemory>
-    ensures { Tells result (said_to upstream (beat_answer message.now)) }
+    ensures { Yields result (said_to upstream (beat_answer message.now)) }
 {
     let bytes = beat_answer(alloc, message)?;
     Ok(Passed::Reply {
@@ -69,7 +69,7 @@ pub fn response(
     exchanges: &Exchanges,
     message: &Message<'_>,
 ) -> Result<Passed, NoMemory>
-    ensures { Tells result (response_said exchanges.now message.now) }
+    ensures { Yields result (response_said exchanges.now message.now) }
 {
     if !is_response(message) {
         return Ok(Passed::Nothing);

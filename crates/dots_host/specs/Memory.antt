@@ -15,7 +15,7 @@ pub record Reading : Type 0 where
 
 -- a sink over bytes: what it holds, its calls, and how often a write failed
 pub record Writing : Type 0 where
-  pub held : List ℕ
+  pub written : List ℕ
   pub calls : Calls
   pub faults : ℕ
 

@@ -14,7 +14,7 @@ use std::marker::Model;
 /// A sink over a list of bytes, which tells what it holds. Want of memory is a failure of the write.
 #[derive(Drop)]
 pub struct MemorySink {
-    held: Vec<u8>,
+    written: Vec<u8>,
     calls: Calls,
     faults: u64,
 }
@@ -24,16 +24,16 @@ impl Model for MemorySink {
 
     ghost Value = { Writing };
 
-    ghost view = { λ sink. record { held = sink.held.items; calls = sink.calls; faults = sink.faults } };
+    ghost view = { λ sink. record { written = sink.written.items; calls = sink.calls; faults = sink.faults } };
 }
 
 impl MemorySink {
     /// An empty sink. Takes no memory.
     pub fn new(alloc: Global) -> Self
-        ensures { result ≡ record { held = []; calls = no_calls; faults = 0 } }
+        ensures { result ≡ record { written = []; calls = no_calls; faults = 0 } }
     {
         MemorySink {
-            held: Vec::new(alloc),
+            written: Vec::new(alloc),
             calls: Calls::new(alloc),
             faults: 0,
         }
@@ -41,9 +41,9 @@ impl MemorySink {
 
     /// What was written.
     pub fn bytes(&self) -> &[u8]
-        ensures { result.now ≡ self.now.held }
+        ensures { result.now ≡ self.now.written }
     {
-        self.held.as_slice()
+        self.written.as_slice()
     }
 
     /// Lets the call of this number fail; the first call is number 1.
@@ -56,7 +56,7 @@ impl MemorySink {
     }
 
     fn fail(&mut self) -> Result<usize, Failed>
-        ensures held { self.new.held ≡ self.old.held }
+        ensures held { self.new.written ≡ self.old.written }
         ensures calls { self.new.calls ≡ self.old.calls }
         ensures cause { HasCause self.old.faults self.new.faults result }
         ensures err { OnOk result ⊥ }
@@ -67,14 +67,14 @@ impl MemorySink {
 }
 
 impl Sink for MemorySink {
-    ghost holds = { λ sink. Some sink.held };
+    ghost holds = { λ sink. Some sink.written };
 
     ghost faults = { λ sink. sink.faults };
 
     fn write(&mut self, bytes: &[u8]) -> Result<usize, Failed>
         ensures bound { WritesAtMost result bytes.now }
         ensures progress { 0 < length bytes.now → IfOk result (λ count. 0 < count) }
-        ensures written { WriteAppends (Some self.old.held) (Some self.new.held) result bytes.now }
+        ensures written { WriteAppends (Some self.old.written) (Some self.new.written) result bytes.now }
         ensures cause { HasCause self.old.faults self.new.faults result }
 
         // It takes all, and fails where the call was to fail, or for want of memory.
@@ -86,7 +86,7 @@ impl Sink for MemorySink {
         if self.calls.next_fails() {
             return self.fail();
         }
-        match self.held.extend_from_slice(bytes) {
+        match self.written.extend_from_slice(bytes) {
             Ok(()) => Ok(bytes.len()),
             Err(_) => self.fail(),
         }

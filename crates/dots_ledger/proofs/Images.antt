@@ -15,32 +15,32 @@ use Rattle.dots_registry.specs.Filed.{RepresentsFiled}
 use Rattle.slot_store.proofs.Steps.{begins, leaves_as}
 use Rattle.slot_journal.specs.DiskEntries.{entries_at}
 use Rattle.dots_ledger.specs.LedgerValues.{LedgerValue, Represents, joins_at}
-use Rattle.dots_ledger.specs.Crashes.{HoldsEither, HoldsOne}
+use Rattle.dots_ledger.specs.Crashes.{HasEither, HasOne}
 use Rattle.dots_ledger.proofs.Slots.{named_there}
 use Rattle.dots_ledger.proofs.LedgerValues.{joins_entries, kept_with, later_of, kept_again}
 
 -- the entries, or what the view names
 pub compacting : (ledger : LedgerValue) (settings : SettingsValue) (history entries : List Entry) (e : Entry) (image : ℕ → ℕ) → Represents ledger settings history entries
-    → HoldsOne settings entries (kept (number_remembered ledger.registry) (time_of ledger.registry) entries) image
-    → HoldsEither settings (number_remembered ledger.registry) (time_of ledger.registry) history e image
-compacting ledger settings history entries e image represents (inl old) = inl (record { entries = entries; holds = old; calm = represents.calm; kept = represents.kept })
+    → HasOne settings entries (kept (number_remembered ledger.registry) (time_of ledger.registry) entries) image
+    → HasEither settings (number_remembered ledger.registry) (time_of ledger.registry) history e image
+compacting ledger settings history entries e image represents (inl old) = inl (record { entries = entries; image_has = old; calm = represents.calm; kept = represents.kept })
 compacting ledger settings history entries e image represents (inr few) =
     inl (record {
       entries = kept (number_remembered ledger.registry) (time_of ledger.registry) entries;
-      holds = few;
+      image_has = few;
       calm = named_is_calm settings (number_remembered ledger.registry) (time_of ledger.registry) entries represents.calm;
       kept = kept_again ledger settings history entries represents;
     })
 
 -- the entries, or one more
 pub appending : (ledger : LedgerValue) (settings : SettingsValue) (history entries : List Entry) (e : Entry) (image : ℕ → ℕ) → Represents ledger settings history entries
-    → joins_at settings (time_of ledger.registry) history e ≡ true → HoldsOne settings entries (entries ++ e ∷ []) image
-    → HoldsEither settings (number_remembered ledger.registry) (time_of ledger.registry) history e image
-appending ledger settings history entries e image represents joins (inl old) = inl (record { entries = entries; holds = old; calm = represents.calm; kept = represents.kept })
+    → joins_at settings (time_of ledger.registry) history e ≡ true → HasOne settings entries (entries ++ e ∷ []) image
+    → HasEither settings (number_remembered ledger.registry) (time_of ledger.registry) history e image
+appending ledger settings history entries e image represents joins (inl old) = inl (record { entries = entries; image_has = old; calm = represents.calm; kept = represents.kept })
 appending ledger settings history entries e image represents joins (inr more) =
     inr (record {
       entries = entries ++ e ∷ [];
-      holds = more;
+      image_has = more;
       calm = calm_more settings entries e represents.calm (joins_entries ledger settings history entries e represents joins);
       kept = kept_with
           (number_remembered ledger.registry)
@@ -66,23 +66,23 @@ pub stays_left : (old new : Option Media) (P : (ℕ → ℕ) → Type 0) → new
 stays_left old new P same = subst (λ m. Leaves old m P) (sym same) (begins old P)
 
 pub leaves_compacting : (old new : Option Media) (ledger : LedgerValue) (settings : SettingsValue) (history entries : List Entry) (e : Entry) → Represents ledger settings history entries
-    → Leaves old new (HoldsOne settings entries (kept (number_remembered ledger.registry) (time_of ledger.registry) entries))
-    → Leaves old new (HoldsEither settings (number_remembered ledger.registry) (time_of ledger.registry) history e)
+    → Leaves old new (HasOne settings entries (kept (number_remembered ledger.registry) (time_of ledger.registry) entries))
+    → Leaves old new (HasEither settings (number_remembered ledger.registry) (time_of ledger.registry) history e)
 leaves_compacting old new ledger settings history entries e represents =
     leaves_as
     old
     new
-    (HoldsOne settings entries (kept (number_remembered ledger.registry) (time_of ledger.registry) entries))
-    (HoldsEither settings (number_remembered ledger.registry) (time_of ledger.registry) history e)
+    (HasOne settings entries (kept (number_remembered ledger.registry) (time_of ledger.registry) entries))
+    (HasEither settings (number_remembered ledger.registry) (time_of ledger.registry) history e)
     (λ image. compacting ledger settings history entries e image represents)
 
 pub leaves_appending : (old new : Option Media) (ledger : LedgerValue) (settings : SettingsValue) (history entries : List Entry) (e : Entry) → Represents ledger settings history entries
-    → joins_at settings (time_of ledger.registry) history e ≡ true → Leaves old new (HoldsOne settings entries (entries ++ e ∷ []))
-    → Leaves old new (HoldsEither settings (number_remembered ledger.registry) (time_of ledger.registry) history e)
+    → joins_at settings (time_of ledger.registry) history e ≡ true → Leaves old new (HasOne settings entries (entries ++ e ∷ []))
+    → Leaves old new (HasEither settings (number_remembered ledger.registry) (time_of ledger.registry) history e)
 leaves_appending old new ledger settings history entries e represents joins =
     leaves_as
     old
     new
-    (HoldsOne settings entries (entries ++ e ∷ []))
-    (HoldsEither settings (number_remembered ledger.registry) (time_of ledger.registry) history e)
+    (HasOne settings entries (entries ++ e ∷ []))
+    (HasEither settings (number_remembered ledger.registry) (time_of ledger.registry) history e)
     (λ image. appending ledger settings history entries e image represents joins)

@@ -26,10 +26,10 @@ use Rattle.slot_store.specs.StoreValues.{JournalValue}
 use Rattle.slot_journal.specs.declared.fault.JournalFault.{JournalFault}
 use Rattle.slot_journal.specs.declared.fault.JournalFault.TheVariants as fault
 use Rattle.slot_journal.specs.Sizes.{slots_of}
-use Rattle.slot_journal.specs.DiskEntries.{HasRecord, Holds}
+use Rattle.slot_journal.specs.DiskEntries.{HasRecord, HasEntries}
 use Rattle.slot_journal.specs.DiskEntries as journal
 use Rattle.slot_journal.specs.Refused.{Refuses, Caused}
-use Rattle.slot_journal.proofs.Crashing.{holds_not_refused, one_history}
+use Rattle.slot_journal.proofs.Crashing.{has_not_refused, one_history}
 use Rattle.dots_registry.specs.RegistryValues.{RegistryValue, IsOf, time_of, number_remembered}
 use Rattle.dots_registry.specs.RegistryValues as registry
 use Rattle.dots_registry.specs.Filed.{RepresentsFiled, most_kept}
@@ -178,12 +178,12 @@ used_many None settings j entries rests = absurd rests
 used_many (Some media) settings j entries rests = rests.1.represents.used ∙ length-map entries record_bytes
 
 pub refuses_stray : (settings : SettingsValue) (extent : ℕ) (seen : ℕ → ℕ) (new : Option Media) (j : JournalValue) (entries : List Entry) (why : JournalFault)
-    → j.slots ≡ slots_of settings → Holds settings seen entries → RestsWith new (journal.Represents j settings entries) → RefusesEntries settings j entries why
+    → j.slots ≡ slots_of settings → HasEntries settings seen entries → RestsWith new (journal.Represents j settings entries) → RefusesEntries settings j entries why
     → RefusesLedger settings extent seen new why
-refuses_stray settings extent seen new j entries (fault.NotOurs at) slots holds rests why =
+refuses_stray settings extent seen new j entries (fault.NotOurs at) slots image_has rests why =
     inr (record {
       entries = entries;
-      holds = holds;
+      image_has = image_has;
       slot = why.0;
       apart = why.1;
       there = rests_as
@@ -196,10 +196,10 @@ refuses_stray settings extent seen new j entries (fault.NotOurs at) slots holds 
           ∙ ap (λ n. place_of (slots_of settings) (n % 2) why.0) (sym represents.represents.selector))
           rests;
     })
-refuses_stray settings extent seen new j entries fault.NoMemory slots holds rests why = tt
-refuses_stray settings extent seen new j entries (fault.TooSmall needed found) slots holds rests why = absurd why
-refuses_stray settings extent seen new j entries (fault.SettingsChanged stored given) slots holds rests why = absurd why
-refuses_stray settings extent seen new j entries fault.DiskFault slots holds rests why = absurd why
+refuses_stray settings extent seen new j entries fault.NoMemory slots image_has rests why = tt
+refuses_stray settings extent seen new j entries (fault.TooSmall needed found) slots image_has rests why = absurd why
+refuses_stray settings extent seen new j entries (fault.SettingsChanged stored given) slots image_has rests why = absurd why
+refuses_stray settings extent seen new j entries fault.DiskFault slots image_has rests why = absurd why
 
 pub refuses_more : (settings : SettingsValue) (extent : ℕ) (seen : ℕ → ℕ) (new : Option Media) (why : JournalFault) → Refuses settings extent seen why
     → RefusesLedger settings extent seen new why
@@ -211,24 +211,24 @@ refuses_more settings extent seen new fault.DiskFault why = why
 
 -- a disk that holds calm entries isn't refused
 pub fails_alone : (settings : SettingsValue) (extent : ℕ) (seen : ℕ → ℕ) (new : Option Media) (entries : List Entry) (why : JournalFault)
-    → RefusesLedger settings extent seen new why → Holds settings seen entries → is_calm settings entries ≡ true → needed_of (slots_of settings) ≤ extent
+    → RefusesLedger settings extent seen new why → HasEntries settings seen entries → is_calm settings entries ≡ true → needed_of (slots_of settings) ≤ extent
     → IsFailure why
-fails_alone settings extent seen new entries (fault.NotOurs at) (inl refuses) holds calm size =
-    absurd (holds_not_refused settings extent seen entries (fault.NotOurs at) holds refuses tt)
-fails_alone settings extent seen new entries (fault.NotOurs at) (inr stray) holds calm size =
+fails_alone settings extent seen new entries (fault.NotOurs at) (inl refuses) image_has calm size =
+    absurd (has_not_refused settings extent seen entries (fault.NotOurs at) image_has refuses tt)
+fails_alone settings extent seen new entries (fault.NotOurs at) (inr stray) image_has calm size =
     let apart = stray.apart in
-    let same = one_history settings seen entries stray.entries holds stray.holds ∙ apart.cut in
+    let same = one_history settings seen entries stray.entries image_has stray.image_has ∙ apart.cut in
     let parts = calm_parts settings apart.before apart.entry apart.later (subst (λ es. is_calm settings es ≡ true) same calm) in
     absurd (false≢true (sym apart.apart ∙ parts.1))
-fails_alone settings extent seen new entries (fault.TooSmall needed found) refuses holds calm size =
+fails_alone settings extent seen new entries (fault.TooSmall needed found) refuses image_has calm size =
     let small = refuses.2 in
     let all = refuses.0 in
     let is = refuses.1 in
     absurd (omega (arith, small, all, is, size))
-fails_alone settings extent seen new entries (fault.SettingsChanged stored given) refuses holds calm size =
-    absurd (holds_not_refused settings extent seen entries (fault.SettingsChanged stored given) holds refuses tt)
-fails_alone settings extent seen new entries fault.DiskFault refuses holds calm size = tt
-fails_alone settings extent seen new entries fault.NoMemory refuses holds calm size = tt
+fails_alone settings extent seen new entries (fault.SettingsChanged stored given) refuses image_has calm size =
+    absurd (has_not_refused settings extent seen entries (fault.SettingsChanged stored given) image_has refuses tt)
+fails_alone settings extent seen new entries fault.DiskFault refuses image_has calm size = tt
+fails_alone settings extent seen new entries fault.NoMemory refuses image_has calm size = tt
 
 -- entries that aren't taken are no fault of the disk
 pub caused_entries : (A : Type 0) (settings : SettingsValue) (j : JournalValue) (entries : List Entry) (why : JournalFault) (before now : ℕ)

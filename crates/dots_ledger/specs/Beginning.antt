@@ -15,7 +15,7 @@ use Rattle.slot_store.specs.Gates.{Sees}
 use Rattle.slot_journal.specs.declared.fault.JournalFault.{JournalFault}
 use Rattle.slot_journal.specs.declared.fault.JournalFault.TheVariants as fault
 use Rattle.std.specs.List.{AllByRecursion}
-use Rattle.slot_journal.specs.DiskEntries.{Holds, HasRecord}
+use Rattle.slot_journal.specs.DiskEntries.{HasEntries, HasRecord}
 use Rattle.slot_journal.specs.DiskEntries as journal
 use Rattle.dots_ledger.specs.LedgerValues.{LedgerValue, Represents}
 
@@ -44,5 +44,5 @@ pub record HasBegun (settings : SettingsValue) (at : ℕ) (start now : Option Me
   pub each : AllByRecursion HasRecord entries
   pub represents : Represents ledger settings entries entries
   pub time : time_of ledger.registry ≡ max at (last_time entries)
-  pub held : (seen : ℕ → ℕ) → Sees start seen → Holds settings seen entries
+  pub stored : (seen : ℕ → ℕ) → Sees start seen → HasEntries settings seen entries
   pub rests : (seen : ℕ → ℕ) → Sees start seen → RestsWith now (journal.Represents ledger.journal settings entries)

@@ -12,7 +12,7 @@ ghost use Rattle.slot_store.specs.Opening.{Is};
 ghost use Rattle.slot_store.specs.Gates.{Sees};
 ghost use Rattle.slot_journal.specs.declared.fault.JournalFault.{JournalFault};
 ghost use Rattle.slot_journal.specs.Sizes.{slots_of};
-ghost use Rattle.slot_journal.specs.DiskEntries.{Holds};
+ghost use Rattle.slot_journal.specs.DiskEntries.{HasEntries};
 ghost use Rattle.slot_journal.specs.Refused.{Caused};
 ghost use Rattle.dots_ledger.specs.Beginning.{HasTaken, HasBegun};
 ghost use Rattle.slot_journal.specs.Untaken.{RefusesLedger, IsFailure};
@@ -43,8 +43,8 @@ impl Ledger {
         requires early { at < 2 ^ 48 }
 
         // A disk on which nothing was pending holds the same list at each moment.
-        ensures moments { (seen : ℕ → ℕ) (entries : List Entry) → RestsWith (D.media disk.old) (Is seen) → Holds settings.now seen entries
-            → Leaves (D.media disk.old) (D.media disk.new) (λ image. Holds settings.now image entries) }
+        ensures moments { (seen : ℕ → ℕ) (entries : List Entry) → RestsWith (D.media disk.old) (Is seen) → HasEntries settings.now seen entries
+            → Leaves (D.media disk.old) (D.media disk.new) (λ image. HasEntries settings.now image entries) }
 
         // It represents what the disk held, which is calm, and the disk rests with that.
         ensures recovered { IfOk result (HasBegun settings.now at (D.media disk.old) (D.media disk.new)) }
@@ -53,12 +53,12 @@ impl Ledger {
         // A disk is refused for a cause that it has, and one that holds calm entries isn't refused.
         ensures refused { IfErr result (λ fault. (seen : ℕ → ℕ) → Sees (D.media disk.old) seen
             → RefusesLedger settings.now (D.extent disk.old) seen (D.media disk.new) fault) }
-        ensures complete { IfErr result (λ fault. (seen : ℕ → ℕ) (entries : List Entry) → Sees (D.media disk.old) seen → Holds settings.now seen entries
+        ensures complete { IfErr result (λ fault. (seen : ℕ → ℕ) (entries : List Entry) → Sees (D.media disk.old) seen → HasEntries settings.now seen entries
             → is_calm settings.now entries ≡ true → needed_of (slots_of settings.now) ≤ D.extent disk.old → IsFailure fault) }
 
         // Where the disk is refused, and none of its calls failed, nothing was written; or it held a list, and holds it still.
         ensures unwritten { IfErr result (λ fault. (seen : ℕ → ℕ) → fault ≢ JournalFault.DiskFault → RestsWith (D.media disk.old) (Is seen)
-            → RestsWith (D.media disk.new) (Is seen) ⊎ ((entries : List Entry) × Holds settings.now seen entries)) }
+            → RestsWith (D.media disk.new) (Is seen) ⊎ ((entries : List Entry) × HasEntries settings.now seen entries)) }
 
         ensures extent { D.extent disk.new ≡ D.extent disk.old }
         ensures cause { Caused (D.faults disk.old) (D.faults disk.new) result }
@@ -94,17 +94,17 @@ fn fill<D: Disk>(
     requires early { at < 2 ^ 48 }
     requires first { HasTaken settings.now [] registry.old }
     requires fewer { (r : RegistryValue) → IsOf settings.now r → most_kept r < slots_of settings.now }
-    ensures moments { (seen : ℕ → ℕ) (entries : List Entry) → RestsWith (D.media disk.old) (Is seen) → Holds settings.now seen entries
-        → Leaves (D.media disk.old) (D.media disk.new) (λ image. Holds settings.now image entries) }
+    ensures moments { (seen : ℕ → ℕ) (entries : List Entry) → RestsWith (D.media disk.old) (Is seen) → HasEntries settings.now seen entries
+        → Leaves (D.media disk.old) (D.media disk.new) (λ image. HasEntries settings.now image entries) }
     ensures recovered { IfOk result (λ journal. HasBegun settings.now at (D.media disk.old) (D.media disk.new)
         (record { registry = registry.new; journal = journal })) }
     ensures size { IfOk result (λ journal. (journal.slots ≡ slots_of settings.now) × (needed_of (slots_of settings.now) ≤ D.extent disk.new)) }
     ensures refused { IfErr result (λ fault. (seen : ℕ → ℕ) → Sees (D.media disk.old) seen
         → RefusesLedger settings.now (D.extent disk.old) seen (D.media disk.new) fault) }
-    ensures complete { IfErr result (λ fault. (seen : ℕ → ℕ) (entries : List Entry) → Sees (D.media disk.old) seen → Holds settings.now seen entries
+    ensures complete { IfErr result (λ fault. (seen : ℕ → ℕ) (entries : List Entry) → Sees (D.media disk.old) seen → HasEntries settings.now seen entries
         → is_calm settings.now entries ≡ true → needed_of (slots_of settings.now) ≤ D.extent disk.old → IsFailure fault) }
     ensures unwritten { IfErr result (λ fault. (seen : ℕ → ℕ) → fault ≢ JournalFault.DiskFault → RestsWith (D.media disk.old) (Is seen)
-        → RestsWith (D.media disk.new) (Is seen) ⊎ ((entries : List Entry) × Holds settings.now seen entries)) }
+        → RestsWith (D.media disk.new) (Is seen) ⊎ ((entries : List Entry) × HasEntries settings.now seen entries)) }
     ensures extent { D.extent disk.new ≡ D.extent disk.old }
     ensures cause { Caused (D.faults disk.old) (D.faults disk.new) result }
     ensures beside { D.beside disk.old disk.new }

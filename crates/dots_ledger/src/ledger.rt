@@ -14,7 +14,7 @@ ghost use Rattle.slot_store.specs.Layout.{needed_of};
 ghost use Rattle.slot_store.specs.Copying.{other_selector};
 ghost use Rattle.slot_journal.specs.DiskEntries as journal;
 ghost use Rattle.dots_ledger.specs.LedgerValues.{Represents, CanAccept, joins_at, once_free};
-ghost use Rattle.dots_ledger.specs.Crashes.{HoldsEither, HoldsOne};
+ghost use Rattle.dots_ledger.specs.Crashes.{HasEither, HasOne};
 
 use coap_observe::DueAmong;
 use dots_disk::Disk;
@@ -87,7 +87,7 @@ impl Ledger {
         ensures moments { (settings : SettingsValue) (history entries : List Entry) → Represents self.old settings history entries
             → joins_at settings (time_of self.old.registry) history staged ≡ true
             → RestsWith (D.media disk.old) (journal.Represents self.old.journal settings entries)
-            → Leaves (D.media disk.old) (D.media disk.new) (HoldsEither settings (number_remembered self.old.registry) (time_of self.old.registry) history staged) }
+            → Leaves (D.media disk.old) (D.media disk.new) (HasEither settings (number_remembered self.old.registry) (time_of self.old.registry) history staged) }
 
         // In the end it represents the history with the entry, and the disk rests with what it then represents.
         ensures accepted { OnOk result ((settings : SettingsValue) (history entries : List Entry) → Represents self.old settings history entries
@@ -103,7 +103,7 @@ impl Ledger {
         ensures next { OnOk result (self.old.journal.used < self.old.journal.slots → self.new.journal ≡ record self.old.journal { used = self.old.journal.used + 1 }) }
         ensures appends { self.old.journal.used < self.old.journal.slots → (settings : SettingsValue) (history entries : List Entry) → Represents self.old settings history entries
             → RestsWith (D.media disk.old) (journal.Represents self.old.journal settings entries)
-            → Leaves (D.media disk.old) (D.media disk.new) (HoldsOne settings entries (entries ++ staged ∷ [])) }
+            → Leaves (D.media disk.old) (D.media disk.new) (HasOne settings entries (entries ++ staged ∷ [])) }
         ensures half { OnOk result (self.old.journal.slots ≤ self.old.journal.used → self.new.journal.selector ≡ other_selector self.old.journal.selector) }
         ensures entries { OnOk result ((settings : SettingsValue) (history entries : List Entry) → Represents self.old settings history entries
             → joins_at settings (time_of self.old.registry) history staged ≡ true
@@ -127,7 +127,7 @@ impl Ledger {
         requires size { needed_of self.old.journal.slots ≤ D.extent disk.old }
         ensures moments { (settings : SettingsValue) (history entries : List Entry) → Represents self.old settings history entries
             → RestsWith (D.media disk.old) (journal.Represents self.old.journal settings entries)
-            → Leaves (D.media disk.old) (D.media disk.new) (HoldsOne settings entries (kept (number_remembered self.old.registry) (time_of self.old.registry) entries)) }
+            → Leaves (D.media disk.old) (D.media disk.new) (HasOne settings entries (kept (number_remembered self.old.registry) (time_of self.old.registry) entries)) }
         ensures compacted { OnOk result ((settings : SettingsValue) (history entries : List Entry) → Represents self.old settings history entries
             → Represents self.new settings history (once_free self.old entries)
             × (RestsWith (D.media disk.old) (journal.Represents self.old.journal settings entries)
@@ -155,7 +155,7 @@ impl Ledger {
         requires size { needed_of self.old.journal.slots ≤ D.extent disk.old }
         ensures moments { (settings : SettingsValue) (history entries : List Entry) → Represents self.old settings history entries
             → RestsWith (D.media disk.old) (journal.Represents self.old.journal settings entries)
-            → Leaves (D.media disk.old) (D.media disk.new) (HoldsOne settings entries (kept (number_remembered self.old.registry) (time_of self.old.registry) entries)) }
+            → Leaves (D.media disk.old) (D.media disk.new) (HasOne settings entries (kept (number_remembered self.old.registry) (time_of self.old.registry) entries)) }
         ensures compacted { OnOk result ((settings : SettingsValue) (history entries : List Entry) → Represents self.old settings history entries
             → Represents self.new settings history (kept (number_remembered self.old.registry) (time_of self.old.registry) entries)
             × (RestsWith (D.media disk.old) (journal.Represents self.old.journal settings entries)
@@ -184,7 +184,7 @@ impl Ledger {
         requires can { CanAccept self.old staged }
         ensures moments { (settings : SettingsValue) (history entries : List Entry) → Represents self.old settings history entries
             → RestsWith (D.media disk.old) (journal.Represents self.old.journal settings entries)
-            → Leaves (D.media disk.old) (D.media disk.new) (HoldsOne settings entries (entries ++ staged ∷ [])) }
+            → Leaves (D.media disk.old) (D.media disk.new) (HasOne settings entries (entries ++ staged ∷ [])) }
         ensures appended { OnOk result ((settings : SettingsValue) (history entries : List Entry) → Represents self.old settings history entries
             → joins_at settings (time_of self.old.registry) history staged ≡ true
             → Represents self.new settings (history ++ staged ∷ []) (entries ++ staged ∷ [])

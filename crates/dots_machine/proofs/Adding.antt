@@ -50,7 +50,7 @@ module _ (settings : SettingsValue) (old : State) (peer : ℕ) (datagram : List 
   adds_so verdict.Silent decides = inl refl
   adds_so (verdict.Reply reply) decides = inl refl
   adds_so (verdict.LongReply reply) decides = inl refl
-  adds_so (verdict.Shows y body) decides = inl refl
+  adds_so (verdict.Retrieves y body) decides = inl refl
   adds_so (verdict.Accept reply entry) decides = inr (entry, refl, accepts_it reply entry decides)
 
   module _ (are : AreBytes datagram) (sends : List OwnedOut) (new : State) where
@@ -75,7 +75,7 @@ module _ (settings : SettingsValue) (conn : ℕ) where
         → (new.history ≡ state.history) ⊎ ((entry : Entry) × (new.history ≡ state.history ++ entry ∷ []) × AcceptsFront settings conn state entry)
 
     -- what is accepted is what the rules accept
-    accepts_so : (message : HttpRequest) (reply : List ℕ) (entry : Entry) → IsCut x.2.line.held (takes message) → (read : Result RestRequest RestReject) → Rest message read
+    accepts_so : (message : HttpRequest) (reply : List ℕ) (entry : Entry) → IsCut x.2.line.buffered (takes message) → (read : Result RestRequest RestReject) → Rest message read
         → answer.Accept reply entry ≡ answer_to settings state.time state.history x.2.caller message.close read → AcceptsFront settings conn state entry
     accepts_so message reply entry cut (Ok asked) means is = record {
       caller = x.2.caller;
@@ -91,7 +91,7 @@ module _ (settings : SettingsValue) (conn : ℕ) where
     }
     accepts_so message reply entry cut (Err rejected) means is = absurd (cc is)
 
-    adds_by : (at : RestFront) → IsFront settings state.time state.history x.2.caller x.2.line.held at → AddsAt (entries_of at)
+    adds_by : (at : RestFront) → IsFront settings state.time state.history x.2.caller x.2.line.buffered at → AddsAt (entries_of at)
     adds_by fronts.Waits stands is = inl (is ∙ append-nil state.history)
     adds_by (fronts.Refused fault) stands is = inl (is ∙ append-nil state.history)
     adds_by (fronts.Answered size close (answer.Reply reply)) stands is = inl (is ∙ append-nil state.history)
@@ -108,12 +108,12 @@ module _ (settings : SettingsValue) (conn : ℕ) where
       accepted_front = fronts.Answered accepts.message.size accepts.message.close (answer.Accept accepts.reply entry)
 
       abbrev StandsHere : RestFront → Type 0
-      StandsHere at = IsFront settings state.time state.history x.2.caller x.2.line.held at
+      StandsHere at = IsFront settings state.time state.history x.2.caller x.2.line.buffered at
 
       stands_there : StandsHere accepted_front
       stands_there =
-          subst (λ (c : Caller). IsFront settings state.time state.history c x.2.line.held accepted_front) (same_Some accepts.caller x.2.caller (sym accepts.asks ∙ x.2.asks))
-          (subst (λ (l : Line). IsFront settings state.time state.history accepts.caller l.held accepted_front) (same_Some accepts.line x.2.line (sym accepts.there ∙ x.2.there))
+          subst (λ (c : Caller). IsFront settings state.time state.history c x.2.line.buffered accepted_front) (same_Some accepts.caller x.2.caller (sym accepts.asks ∙ x.2.asks))
+          (subst (λ (l : Line). IsFront settings state.time state.history accepts.caller l.buffered accepted_front) (same_Some accepts.line x.2.line (sym accepts.there ∙ x.2.there))
           (accepts.message, accepts.cut, refl, refl, inl (Ok accepts.asked, accepts.means, sym accepts.accepted)))
 
       says_failed : (close : Bool) (size : ℕ) → x.2.front ≡ fronts.Answered size close (answer.Reply (unavailable close)) → SaysFailed conn sends
@@ -130,7 +130,7 @@ module _ (settings : SettingsValue) (conn : ℕ) where
               lack.other_is ∙ ap (fronts.Answered lack.size lack.close) is in
               absurd (cc same)
 
-      by_early : IsEarly x.2.line.held x.2.front accepted_front → (new.history ≡ state.history ++ entry ∷ []) ⊎ SaysFailed conn sends
+      by_early : IsEarly x.2.line.buffered x.2.front accepted_front → (new.history ≡ state.history ++ entry ∷ []) ⊎ SaysFailed conn sends
       by_early early = by_which early.which
         where
           by_which : ((x.2.front ≡ fronts.Waits) × (accepted_front ≡ fronts.Refused BadHead)) ⊎ ((x.2.front ≡ fronts.Refused BadHead) × (accepted_front ≡ fronts.Waits))
@@ -138,14 +138,14 @@ module _ (settings : SettingsValue) (conn : ℕ) where
           by_which (inl is) = let never : fronts.Answered accepts.message.size accepts.message.close (answer.Accept accepts.reply entry) ≡ fronts.Refused BadHead = is.1 in absurd (cc never)
           by_which (inr is) = let never : fronts.Answered accepts.message.size accepts.message.close (answer.Accept accepts.reply entry) ≡ fronts.Waits = is.1 in absurd (cc never)
 
-      accepted_so_far : (x.2.front ≡ accepted_front) ⊎ (LackMemory x.2.front accepted_front ⊎ IsEarly x.2.line.held x.2.front accepted_front)
+      accepted_so_far : (x.2.front ≡ accepted_front) ⊎ (LackMemory x.2.front accepted_front ⊎ IsEarly x.2.line.buffered x.2.front accepted_front)
           → (new.history ≡ state.history ++ entry ∷ []) ⊎ SaysFailed conn sends
       accepted_so_far (inl same) = inl (front_history settings conn state sends new x ∙ ap (λ f. state.history ++ entries_of f) same)
       accepted_so_far (inr (inl lack)) = by_lack lack
       accepted_so_far (inr (inr early)) = by_early early
 
       accepted_there : (new.history ≡ state.history ++ entry ∷ []) ⊎ SaysFailed conn sends
-      accepted_there = accepted_so_far (one_front settings state.time state.history x.2.caller x.2.line.held x.2.front accepted_front x.2.stands stands_there)
+      accepted_there = accepted_so_far (one_front settings state.time state.history x.2.caller x.2.line.buffered x.2.front accepted_front x.2.stands stands_there)
 
     front_adds : FrontAdds settings conn state sends new
     front_adds = record {

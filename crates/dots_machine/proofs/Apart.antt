@@ -26,7 +26,7 @@ use Rattle.dots_machine.specs.declared.client_request.ClientRequest.{ClientReque
 use Rattle.dots_machine.specs.declared.mitigation_request.MitigationRequest.{MitigationRequest}
 use Rattle.dots_machine.specs.Verdict.{Verdict}
 use Rattle.dots_machine.specs.declared.verdict.Verdict.TheVariants as verdict
-use Rattle.dots_machine.specs.Domains.{domain_for, session_domain}
+use Rattle.dots_machine.specs.Domains.{domain_for, config_domain}
 use Rattle.target_rules.specs.Targets.{scope_fault}
 use Rattle.dots_machine.specs.MessageRepeats.{Sent, sent_for, unless_repeated}
 use Rattle.dots_machine.specs.Mitigations.{sent_by, request_of, judged, unless_faulty, put_answer, is_taken, delete_by, delete_answer, get_by, get_answer, client_for}
@@ -54,7 +54,7 @@ same_after : (domain : ℕ) (one other : State) → SameFor domain one other →
 same_after domain one other same verdict.Silent = same
 same_after domain one other same (verdict.Reply reply) = same
 same_after domain one other same (verdict.LongReply reply) = same
-same_after domain one other same (verdict.Shows y body) = same
+same_after domain one other same (verdict.Retrieves y body) = same
 same_after domain one other same (verdict.Accept reply entry) = record {
   time = same.time;
   entries = filter-append (λ e. e.domain == domain) one.history (entry ∷ []) ∙ ap (λ entries. entries ++ alone domain (entry ∷ [])) same.entries
@@ -71,7 +71,7 @@ module _ (settings : SettingsValue) where
     untouched another verdict.Silent there well = absurd well
     untouched another (verdict.Reply reply) there well = refl
     untouched another (verdict.LongReply reply) there well = refl
-    untouched another (verdict.Shows y body) there well = refl
+    untouched another (verdict.Retrieves y body) there well = refl
     untouched another (verdict.Accept reply entry) there well =
         filter-append (λ e. e.domain == domain) one.history (entry ∷ []) ∙ by_test (entry.domain == domain) refl
       where
@@ -190,15 +190,15 @@ module _ (settings : SettingsValue) where
         (delete_for (facts_in settings one) peer x path) (delete_for (facts_in settings other) peer x path) refl (deletes_accept settings (facts_in settings one) peer x path)
         (with_mid_same x path.mid _ _ (λ mid. delete_in_same (asks_for peer x path domain) refl mid))
     asked_apart peer x (request.PutConfig sid body) =
-        in_domain_apart peer x (request.PutConfig sid body) (session_domain (role_of settings peer))
+        in_domain_apart peer x (request.PutConfig sid body) (config_domain (role_of settings peer))
         (put_config_for (facts_in settings one) peer x sid body) (put_config_for (facts_in settings other) peer x sid body) refl
         (put_configs_accept settings (facts_in settings one) peer x sid body) (put_config_same peer x sid body)
     asked_apart peer x (request.GetConfig sid) =
-        in_domain_apart peer x (request.GetConfig sid) (session_domain (role_of settings peer))
+        in_domain_apart peer x (request.GetConfig sid) (config_domain (role_of settings peer))
         (get_config_for (facts_in settings one) peer x sid) (get_config_for (facts_in settings other) peer x sid) refl
         (get_configs_accept settings (facts_in settings one) peer x sid) (ap (config_view x sid) (configured_same peer))
     asked_apart peer x (request.DeleteConfig sid) =
-        in_domain_apart peer x (request.DeleteConfig sid) (session_domain (role_of settings peer))
+        in_domain_apart peer x (request.DeleteConfig sid) (config_domain (role_of settings peer))
         (delete_config_for (facts_in settings one) peer x sid) (delete_config_for (facts_in settings other) peer x sid) refl
         (delete_configs_accept settings (facts_in settings one) peer x sid) (delete_config_same peer x sid)
     asked_apart peer x (request.PutHeartbeat heard) = inr refl

@@ -25,17 +25,17 @@ module _ (settings : SettingsValue) (conn : ℕ) where
 
   module _ (state : State) where
     abbrev Differs : List ℕ → RestFront → RestFront → Type 0
-    Differs held one other = LackMemory one other ⊎ IsEarly held one other
+    Differs buffered one other = LackMemory one other ⊎ IsEarly buffered one other
 
     -- a front of a turn, over what is held in another
     stands_for : (front : RestFront) (caller own : Caller) (line there : Line) → own ≡ caller → there ≡ line
-        → IsFront settings state.time state.history own there.held front → IsFront settings state.time state.history caller line.held front
+        → IsFront settings state.time state.history own there.buffered front → IsFront settings state.time state.history caller line.buffered front
     stands_for front caller own line there same_caller same_line x =
-        subst (λ (c : Caller). IsFront settings state.time state.history c line.held front) same_caller
-        (subst (λ (l : Line). IsFront settings state.time state.history own l.held front) same_line x)
+        subst (λ (c : Caller). IsFront settings state.time state.history c line.buffered front) same_caller
+        (subst (λ (l : Line). IsFront settings state.time state.history own l.buffered front) same_line x)
 
     module _ (sends others : List OwnedOut) (new last : State) (x : AnswersFront settings conn state sends new) (y : AnswersFront settings conn state others last) where
-      second_stands : IsFront settings state.time state.history x.2.caller x.2.line.held y.2.front
+      second_stands : IsFront settings state.time state.history x.2.caller x.2.line.buffered y.2.front
       second_stands =
           stands_for y.2.front x.2.caller y.2.caller x.2.line y.2.line (same_Some y.2.caller x.2.caller (sym y.2.asks ∙ x.2.asks))
           (same_Some y.2.line x.2.line (sym y.2.there ∙ x.2.there)) y.2.stands
@@ -51,8 +51,8 @@ module _ (settings : SettingsValue) (conn : ℕ) where
       )
 
     -- a turn stands at a front at which nothing else waits
-    waits_there : (line : Line) → line_of conn state.lines ≡ Some line → Rests conn state.lines → IsCut line.held waits
-    waits_there line there rests = subst (λ (o : Option Line). MatchOption o ⊤ (λ (l : Line). IsCut l.held waits)) there rests
+    waits_there : (line : Line) → line_of conn state.lines ≡ Some line → Rests conn state.lines → IsCut line.buffered waits
+    waits_there line there rests = subst (λ (o : Option Line). MatchOption o ⊤ (λ (l : Line). IsCut l.buffered waits)) there rests
 
     never_waits : (front : RestFront) → is_waiting front ≡ false → fronts.Waits ≡ front → ⊥
     never_waits front due same = false≢true (sym due ∙ ap is_waiting (sym same))
@@ -69,12 +69,12 @@ module _ (settings : SettingsValue) (conn : ℕ) where
   -- the one waits where the other answers
   first_waits : (state : State) (turn : Turn State) (turns : List (Turn State)) (more rest : List OwnedOut) → Rests conn state.lines → AnswersFront settings conn state turn.sends turn.left
       → PartWays settings conn state more (outs_in (turn ∷ turns) ++ rest)
-  first_waits state turn turns more rest rests y = by_fronts (one_front settings state.time state.history y.2.caller y.2.line.held fronts.Waits y.2.front waiting y.2.stands)
+  first_waits state turn turns more rest rests y = by_fronts (one_front settings state.time state.history y.2.caller y.2.line.buffered fronts.Waits y.2.front waiting y.2.stands)
     where
-      waiting : IsCut y.2.line.held waits
+      waiting : IsCut y.2.line.buffered waits
       waiting = waits_there state y.2.line y.2.there rests
 
-      by_fronts : (fronts.Waits ≡ y.2.front) ⊎ (LackMemory fronts.Waits y.2.front ⊎ IsEarly y.2.line.held fronts.Waits y.2.front)
+      by_fronts : (fronts.Waits ≡ y.2.front) ⊎ (LackMemory fronts.Waits y.2.front ⊎ IsEarly y.2.line.buffered fronts.Waits y.2.front)
           → PartWays settings conn state more (outs_in (turn ∷ turns) ++ rest)
       by_fronts (inl same) = absurd (never_waits state y.2.front y.2.due same)
       by_fronts (inr differ) = record {
@@ -98,12 +98,12 @@ module _ (settings : SettingsValue) (conn : ℕ) where
 
   second_waits : (state : State) (turn : Turn State) (turns : List (Turn State)) (more rest : List OwnedOut) → AnswersFront settings conn state turn.sends turn.left → Rests conn state.lines
       → PartWays settings conn state (outs_in (turn ∷ turns) ++ more) rest
-  second_waits state turn turns more rest x rests = by_fronts (one_front settings state.time state.history x.2.caller x.2.line.held x.2.front fronts.Waits x.2.stands waiting)
+  second_waits state turn turns more rest x rests = by_fronts (one_front settings state.time state.history x.2.caller x.2.line.buffered x.2.front fronts.Waits x.2.stands waiting)
     where
-      waiting : IsCut x.2.line.held waits
+      waiting : IsCut x.2.line.buffered waits
       waiting = waits_there state x.2.line x.2.there rests
 
-      by_fronts : (x.2.front ≡ fronts.Waits) ⊎ (LackMemory x.2.front fronts.Waits ⊎ IsEarly x.2.line.held x.2.front fronts.Waits)
+      by_fronts : (x.2.front ≡ fronts.Waits) ⊎ (LackMemory x.2.front fronts.Waits ⊎ IsEarly x.2.line.buffered x.2.front fronts.Waits)
           → PartWays settings conn state (outs_in (turn ∷ turns) ++ more) rest
       by_fronts (inl same) = absurd (never_waits state x.2.front x.2.due (sym same))
       by_fronts (inr differ) = record {
@@ -127,7 +127,7 @@ module _ (settings : SettingsValue) (conn : ℕ) where
 
   both_differ : (state : State) (turn other : Turn State) (turns others : List (Turn State)) (more rest : List OwnedOut)
       (x : AnswersFront settings conn state turn.sends turn.left) (y : AnswersFront settings conn state other.sends other.left)
-      → LackMemory x.2.front y.2.front ⊎ IsEarly x.2.line.held x.2.front y.2.front
+      → LackMemory x.2.front y.2.front ⊎ IsEarly x.2.line.buffered x.2.front y.2.front
       → PartWays settings conn state (outs_in (turn ∷ turns) ++ more) (outs_in (other ∷ others) ++ rest)
   both_differ state turn other turns others more rest x y differ = record {
     turns = [];
@@ -179,7 +179,7 @@ module _ (settings : SettingsValue) (conn : ℕ) where
       inr (second_waits state turn turns more rest x.0 (subst (λ (s : State). Rests conn s.lines) y resting))
   fronts_once state (turn ∷ turns) (other ∷ others) new last more rest x rested y resting =
       by_fronts (λ z. fronts_once turn.left turns others new last more rest x.1 rested z resting)
-      (one_front settings state.time state.history x.0.2.caller x.0.2.line.held x.0.2.front y.0.2.front x.0.2.stands (second_stands state turn.sends other.sends turn.left other.left x.0 y.0))
+      (one_front settings state.time state.history x.0.2.caller x.0.2.line.buffered x.0.2.front y.0.2.front x.0.2.stands (second_stands state turn.sends other.sends turn.left other.left x.0 y.0))
     where
       made : List OwnedOut → State → Turn State
       made sends left = record { sends = sends; left = left }
@@ -193,7 +193,7 @@ module _ (settings : SettingsValue) (conn : ℕ) where
           (begins_so state turn (outs_in turns ++ more) (outs_in others ++ rest) x.0 part)))
 
       by_fronts : (Fronts turn.left others last → AreAlike turn.left turns others new last more rest)
-          → (x.0.2.front ≡ y.0.2.front) ⊎ (LackMemory x.0.2.front y.0.2.front ⊎ IsEarly x.0.2.line.held x.0.2.front y.0.2.front)
+          → (x.0.2.front ≡ y.0.2.front) ⊎ (LackMemory x.0.2.front y.0.2.front ⊎ IsEarly x.0.2.line.buffered x.0.2.front y.0.2.front)
           → AreAlike state (turn ∷ turns) (other ∷ others) new last more rest
       by_fronts further (inl same) =
           let one = alike_turns state turn.sends other.sends turn.left other.left x.0 y.0 same in

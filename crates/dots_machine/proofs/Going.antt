@@ -4,7 +4,7 @@ use Rattle.dots_host.specs.Acts.{Timed}
 use Rattle.dots_disk.specs.Media.{Media}
 use Rattle.slot_store.specs.Gates.{Sees}
 use Rattle.slot_store.specs.Layout.{needed_of}
-use Rattle.slot_journal.specs.DiskEntries.{Holds}
+use Rattle.slot_journal.specs.DiskEntries.{HasEntries}
 use Rattle.slot_journal.specs.Sizes.{slots_of}
 use Rattle.slot_journal.proofs.Crashing.{one_history}
 use Rattle.dots_settings.specs.Settings.{SettingsValue}
@@ -14,15 +14,15 @@ use Rattle.dots_machine.specs.Machine.{State}
 use Rattle.dots_machine.specs.Surviving.{MeansAt, shown, time_at}
 use Rattle.dots_machine.specs.Endings.{GivesSettings, IsReady}
 
-pub found_again : (settings : SettingsValue) (start : State) (acts : List Timed) (trace : List State) (history : List Entry) (m : ℕ) (image : ℕ → ℕ) (media : Option Media) (held : List Entry)
-    → MeansAt settings start acts trace history m image → Sees media image → ((seen : ℕ → ℕ) → Sees media seen → Holds settings seen held)
-    → (count : ℕ) × (count ≤ length history) × (shown m acts trace (length start.history) ≤ count) × Kept settings.limits.remembered (time_at m acts trace start.time) held (take count history)
-found_again settings start acts trace history m image media held stands sees was_held =
-    let same = one_history settings image stands.holds.entries held stands.holds.holds (was_held image sees) in (
+pub found_again : (settings : SettingsValue) (start : State) (acts : List Timed) (trace : List State) (history : List Entry) (m : ℕ) (image : ℕ → ℕ) (media : Option Media) (stored : List Entry)
+    → MeansAt settings start acts trace history m image → Sees media image → ((seen : ℕ → ℕ) → Sees media seen → HasEntries settings seen stored)
+    → (count : ℕ) × (count ≤ length history) × (shown m acts trace (length start.history) ≤ count) × Kept settings.limits.remembered (time_at m acts trace start.time) stored (take count history)
+found_again settings start acts trace history m image media stored stands sees was_stored =
+    let same = one_history settings image stands.image_has.entries stored stands.image_has.image_has (was_stored image sees) in (
       stands.count,
       stands.within,
       stands.has_shown,
-      subst (λ es. Kept settings.limits.remembered (time_at m acts trace start.time) es (take stands.count history)) same stands.holds.kept,
+      subst (λ es. Kept settings.limits.remembered (time_at m acts trace start.time) es (take stands.count history)) same stands.image_has.kept,
     )
 
 pub ready_again : (start : State) (acts : List Timed) (trace : List State) (history : List Entry) (m : ℕ) (image : ℕ → ℕ) (left : Option (List ℕ)) (media : Option Media) (extent : ℕ)
@@ -31,8 +31,8 @@ ready_again start acts trace history m image left media extent gives stands sees
   gives = gives;
   seen = image;
   sees = sees;
-  held = stands.holds.entries;
-  holds = stands.holds.holds;
-  calm = stands.holds.calm;
+  stored = stands.image_has.entries;
+  image_has = stands.image_has.image_has;
+  calm = stands.image_has.calm;
   large = large;
 }

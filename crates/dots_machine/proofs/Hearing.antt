@@ -66,14 +66,14 @@ pub same_history_after : (v : Verdict) (a b : State) → a.history ≡ b.history
 same_history_after verdict.Silent a b same = same
 same_history_after (verdict.Reply reply) a b same = same
 same_history_after (verdict.LongReply reply) a b same = same
-same_history_after (verdict.Shows x body) a b same = same
+same_history_after (verdict.Retrieves x body) a b same = same
 same_history_after (verdict.Accept reply entry) a b same = ap (λ es. es ++ entry ∷ []) same
 
 pub same_time_after : (v : Verdict) (a b : State) → a.time ≡ b.time → (after v a).time ≡ (after v b).time
 same_time_after verdict.Silent a b same = same
 same_time_after (verdict.Reply reply) a b same = same
 same_time_after (verdict.LongReply reply) a b same = same
-same_time_after (verdict.Shows x body) a b same = same
+same_time_after (verdict.Retrieves x body) a b same = same
 same_time_after (verdict.Accept reply entry) a b same = same
 
 -- a verdict changes no observer
@@ -81,7 +81,7 @@ pub after_observers : (v : Verdict) (state : State) → (after v state).observer
 after_observers verdict.Silent state = refl
 after_observers (verdict.Reply reply) state = refl
 after_observers (verdict.LongReply reply) state = refl
-after_observers (verdict.Shows x body) state = refl
+after_observers (verdict.Retrieves x body) state = refl
 after_observers (verdict.Accept reply entry) state = refl
 
 -- ---- what an answer leaves

@@ -33,7 +33,7 @@ use Rattle.dots_machine.specs.declared.received.Received.{Received}
 use Rattle.dots_machine.specs.declared.received.Received.TheVariants as received
 use Rattle.dots_machine.specs.Verdict.{Verdict}
 use Rattle.dots_machine.specs.declared.verdict.Verdict.TheVariants as verdict
-use Rattle.dots_machine.specs.Domains.{is_gateway, domain_for, session_domain, is_stranger}
+use Rattle.dots_machine.specs.Domains.{is_gateway, domain_for, config_domain, is_stranger}
 use Rattle.dots_machine.specs.Requests.{IsReceived}
 use Rattle.dots_machine.specs.Machine.{State, afresh, later, DecidesRequest, Rules, dismissal_verdict, reject_verdict, Decides, by_silence, by_rules, for_want_of_memory, sends_of, after, AnswersFront, receiving, Takes, Step, facts_in}
 use Rattle.dots_machine.specs.Apart.{SameFor, domain_of, AsksFor, by_datagram, AsksOn}
@@ -93,7 +93,7 @@ refusal_adds_nothing : (v : Verdict) (state : State) → IsRefusal v → after v
 refusal_adds_nothing verdict.Silent state none = refl
 refusal_adds_nothing (verdict.Reply reply) state none = refl
 refusal_adds_nothing (verdict.LongReply reply) state none = absurd none
-refusal_adds_nothing (verdict.Shows y body) state none = absurd none
+refusal_adds_nothing (verdict.Retrieves y body) state none = absurd none
 refusal_adds_nothing (verdict.Accept reply entry) state none = absurd none
 
 dismissal_adds_nothing : (d : Dismissal) (state : State) → after (dismissal_verdict d) state ≡ state
@@ -122,7 +122,7 @@ module _ (settings : SettingsValue) (domain conn : ℕ) where
       left_alone : (at : RestFront) → turn.front ≡ at → http_entries at ≡ [] → alone domain new.history ≡ alone domain state.history
       left_alone at is none = left_with at is ∙ ap (λ es. alone domain state.history ++ es) none ∙ append-nil (alone domain state.history)
 
-      by_answers : (size : ℕ) (close : Bool) (answered : RestAnswer) → turn.front ≡ fronts.Answered size close answered → (message : HttpRequest) → IsCut turn.line.held (takes message)
+      by_answers : (size : ℕ) (close : Bool) (answered : RestAnswer) → turn.front ≡ fronts.Answered size close answered → (message : HttpRequest) → IsCut turn.line.buffered (takes message)
           → close ≡ message.close → HttpAnswers settings state.time (alone domain state.history) turn.caller message answered → Front
       by_answers size close answered is message cut closes (inl (read, means, given)) = inl (
         record { time = state.time; peer = turn.caller.peer; asking = by_http conn message; replies = sends },
@@ -161,7 +161,7 @@ module _ (settings : SettingsValue) (domain conn : ℕ) where
         left_alone (fronts.Answered size close answered) is (ap entries_in lacks),
       )
 
-      by_front : (at : RestFront) → turn.front ≡ at → IsFront settings state.time (alone domain state.history) turn.caller turn.line.held at → Front
+      by_front : (at : RestFront) → turn.front ≡ at → IsFront settings state.time (alone domain state.history) turn.caller turn.line.buffered at → Front
       by_front fronts.Waits is stands = absurd (false≢true (sym turn.due ∙ ap is_waiting is))
       by_front (fronts.Refused fault) is stands = inr (front_refused turn.line fault turn.there stands, left_alone (fronts.Refused fault) is refl)
       by_front (fronts.Answered size close answered) is stands = by_answers size close answered is stands.0 stands.1 stands.3 stands.4
@@ -290,18 +290,18 @@ module _ (settings : SettingsValue) (domain : ℕ) (old : State) (handling : Han
           left (request.DeleteMitigation path) never =
               in_domain_left (domain_for settings who path.cdid) (delete_for (facts_in settings now) peer x path) (deletes_accept settings (facts_in settings now) peer x path) never
           left (request.PutConfig sid body) never =
-              in_domain_left (session_domain who) (put_config_for (facts_in settings now) peer x sid body) (put_configs_accept settings (facts_in settings now) peer x sid body) never
+              in_domain_left (config_domain who) (put_config_for (facts_in settings now) peer x sid body) (put_configs_accept settings (facts_in settings now) peer x sid body) never
           left (request.GetConfig sid) never =
-              in_domain_left (session_domain who) (get_config_for (facts_in settings now) peer x sid) (get_configs_accept settings (facts_in settings now) peer x sid) never
+              in_domain_left (config_domain who) (get_config_for (facts_in settings now) peer x sid) (get_configs_accept settings (facts_in settings now) peer x sid) never
           left (request.DeleteConfig sid) never =
-              in_domain_left (session_domain who) (delete_config_for (facts_in settings now) peer x sid) (delete_configs_accept settings (facts_in settings now) peer x sid) never
+              in_domain_left (config_domain who) (delete_config_for (facts_in settings now) peer x sid) (delete_configs_accept settings (facts_in settings now) peer x sid) never
           left (request.PutHeartbeat heard) never = refl
 
       time_kept : (v : Verdict) → (after v now).time ≡ now.time
       time_kept verdict.Silent = refl
       time_kept (verdict.Reply reply) = refl
       time_kept (verdict.LongReply reply) = refl
-      time_kept (verdict.Shows y body) = refl
+      time_kept (verdict.Retrieves y body) = refl
       time_kept (verdict.Accept reply entry) = refl
 
       -- for the domain
@@ -343,7 +343,7 @@ module _ (settings : SettingsValue) (domain : ℕ) (old : State) (handling : Han
           added verdict.Silent well = absurd well
           added (verdict.Reply reply) well = sym (append-nil (alone domain old.history))
           added (verdict.LongReply reply) well = sym (append-nil (alone domain old.history))
-          added (verdict.Shows y body) well = sym (append-nil (alone domain old.history))
+          added (verdict.Retrieves y body) well = sym (append-nil (alone domain old.history))
           added (verdict.Accept reply entry) well =
               filter-append (λ e. e.domain == domain) old.history (entry ∷ [])
               ∙ ap (λ es. alone domain old.history ++ es) (cond-true (entry.domain == domain) (entry ∷ []) [] (grind (arith, nat_tests, well.1)))

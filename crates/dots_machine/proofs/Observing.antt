@@ -50,7 +50,7 @@ use Rattle.dots_machine.specs.Replies.{unavailable}
 use Rattle.dots_machine.specs.Domains.{is_gateway, is_stranger, domain_for}
 use Rattle.dots_machine.specs.Exchanges.{exchange_in}
 use Rattle.dots_machine.specs.Requests.{received_as, IsReceived, unread, asks_nothing, meant}
-use Rattle.dots_machine.specs.Observing.{asked_in, in_known, asked_of, asked_by, unless_dismissed, watching_in, Watches, by_message, unreadable, by_stranger, bodies_at, watching_of, code_of, is_shown, is_unavailable, observing}
+use Rattle.dots_machine.specs.Observing.{asked_in, in_known, asked_of, asked_by, unless_dismissed, watching_in, Watches, by_message, unreadable, by_stranger, bodies_at, watching_of, code_of, is_retrieved, is_unavailable, observing}
 use Rattle.dots_machine.specs.Machine.{State, seen_in, watched, Notified}
 
 -- ---- what is asked
@@ -195,13 +195,13 @@ module _ (settings : SettingsValue) where
 
   module _ (lists : Lists) (peer : ℕ) (decided : Verdict) (replies : List OwnedOut) (observed : List ObservedValue) (apart : Apart observed) where
     apart_so : (asked : Watching) → Apart (observing settings lists peer asked decided replies observed)
-    apart_so (watching.Registers observer) = by_shown (is_shown decided) (has_room settings.limits.observers observer observed)
+    apart_so (watching.Registers observer) = by_shown (is_retrieved decided) (has_room settings.limits.observers observer observed)
       where
         by_shown : (shown room : Bool) → Apart (cond shown (cond room (entered observer (list_for lists observer) observed) observed) observed)
         by_shown true true = apart_entered observer (list_for lists observer) observed apart
         by_shown true false = apart
         by_shown false room = apart
-    apart_so (watching.Leaves token) = by_reply (is_unavailable replies)
+    apart_so (watching.Cancels token) = by_reply (is_unavailable replies)
       where
         by_reply : (lacks : Bool) → Apart (cond lacks observed (deregistered peer token observed))
         by_reply true = apart
@@ -214,10 +214,10 @@ module _ (settings : SettingsValue) where
   watched_apart peer asked decided replies state apart = apart_so (seen_in settings state) peer decided replies state.observers apart asked
 
   -- verdicts that both show nothing leave the same observers
-  pub unshown_alike : (lists : Lists) (peer : ℕ) (replies : List OwnedOut) (observed : List ObservedValue) (v w : Verdict) (asked : Watching) → is_shown v ≡ is_shown w
+  pub unshown_alike : (lists : Lists) (peer : ℕ) (replies : List OwnedOut) (observed : List ObservedValue) (v w : Verdict) (asked : Watching) → is_retrieved v ≡ is_retrieved w
       → observing settings lists peer asked v replies observed ≡ observing settings lists peer asked w replies observed
   unshown_alike lists peer replies observed v w (watching.Registers observer) same = ap (λ b. cond b (registered lists settings.limits.observers observer observed) observed) same
-  unshown_alike lists peer replies observed v w (watching.Leaves token) same = refl
+  unshown_alike lists peer replies observed v w (watching.Cancels token) same = refl
   unshown_alike lists peer replies observed v w (watching.Rejects id) same = refl
   unshown_alike lists peer replies observed v w watching.Nothing same = refl
 

@@ -45,13 +45,13 @@ payload_are_bytes datagram m is are =
 
 reads_once : (payload : List ℕ) → AreBytes payload → OneReading payload
 reads_once payload are =
-    let holds = short_bytes payload are.0 are.1 in
+    let image_has = short_bytes payload are.0 are.1 in
     record {
       spelling = λ s t a b x y one other same.
           let found = same_reading a b x y s t 16 one.1 other.1 same in
           (same_front a b x y found.1 same, found.0, found.1);
-      fault = λ f g a b. one_fault payload f g holds a b;
-      not_both = λ front rest tree f is spelled breaks. not_spelled payload front rest tree f holds is spelled breaks;
+      fault = λ f g a b. one_fault payload f g image_has a b;
+      not_both = λ front rest tree f is spelled breaks. not_spelled payload front rest tree f image_has is spelled breaks;
     }
 
 -- ---- one verdict

@@ -14,7 +14,7 @@ use Rattle.coap_observe.specs.Observed.{ObservedValue}
 use Rattle.dots_notices.specs.Beats.{after_beats}
 use Rattle.dots_notices.specs.Notifying.{Apart}
 use Rattle.dots_machine.specs.declared.watching.Watching.{Watching}
-use Rattle.dots_machine.specs.Observing.{bodies_at, code_of, is_shown, number_of}
+use Rattle.dots_machine.specs.Observing.{bodies_at, code_of, is_retrieved, number_of}
 use Rattle.dots_machine.specs.Verdict.{Verdict}
 use Rattle.dots_machine.specs.declared.verdict.Verdict.TheVariants as verdict
 use Rattle.dots_machine.specs.Domains.{is_gateway}
@@ -39,21 +39,21 @@ SendsSuccess _ = ⊥
 -- something is accepted, or mitigations are shown
 abbrev IsChange : Verdict → Type 0
 IsChange (verdict.Accept reply entry) = Unit {0}
-IsChange (verdict.Shows x body) = Unit {0}
+IsChange (verdict.Retrieves x body) = Unit {0}
 IsChange _ = ⊥
 
 refusal_sends : (number : Option ℕ) (v : Verdict) (peer : ℕ) → IsRefusal v → SendsSuccess (sends_of number v peer) → ⊥
 refusal_sends number verdict.Silent peer none s = s
 refusal_sends number (verdict.Reply reply) peer none s = false≢true (sym none ∙ s)
 refusal_sends number (verdict.LongReply reply) peer none s = none
-refusal_sends number (verdict.Shows x body) peer none s = none
+refusal_sends number (verdict.Retrieves x body) peer none s = none
 refusal_sends number (verdict.Accept reply entry) peer none s = none
 
 refusal_is_no_change : (v : Verdict) → IsRefusal v → IsChange v → ⊥
 refusal_is_no_change verdict.Silent none a = a
 refusal_is_no_change (verdict.Reply reply) none a = a
 refusal_is_no_change (verdict.LongReply reply) none a = a
-refusal_is_no_change (verdict.Shows x body) none a = none
+refusal_is_no_change (verdict.Retrieves x body) none a = none
 refusal_is_no_change (verdict.Accept reply entry) none a = none
 
 -- two lists of sends with fronts of one length
@@ -83,7 +83,7 @@ module _ (settings : SettingsValue) (state : State) (peer : ℕ) (datagram : Lis
     where
       told : (v : Verdict) → IsChange v → SucceedsWell settings (facts_in settings state) v → SendsSuccess (sends_of number v peer)
       told (verdict.Accept reply entry) a well = well
-      told (verdict.Shows x body) a well = refl
+      told (verdict.Retrieves x body) a well = refl
       told verdict.Silent a well = absurd a
       told (verdict.Reply reply) a well = absurd a
       told (verdict.LongReply reply) a well = absurd a
@@ -118,7 +118,7 @@ module _ (settings : SettingsValue) (state : State) (peer : ℕ) (datagram : Lis
   left_by asked met replies v = watched settings peer asked v replies (after v met)
 
   -- verdicts that are both no change leave the same
-  no_change : (asked : Watching) (met : State) (replies : List OwnedOut) (v w : Verdict) → after v met ≡ met → after w met ≡ met → is_shown v ≡ false → is_shown w ≡ false
+  no_change : (asked : Watching) (met : State) (replies : List OwnedOut) (v w : Verdict) → after v met ≡ met → after w met ≡ met → is_retrieved v ≡ false → is_retrieved w ≡ false
       → left_by asked met replies v ≡ left_by asked met replies w
   no_change asked met replies v w first second shows none =
       ap (watched settings peer asked v replies) first
@@ -128,11 +128,11 @@ module _ (settings : SettingsValue) (state : State) (peer : ℕ) (datagram : Lis
       with_observers : State → List ObservedValue → State
       with_observers met observers = record met { observers = observers }
 
-  change_or_not : (v : Verdict) (met : State) → IsChange v ⊎ ((after v met ≡ met) × (is_shown v ≡ false))
+  change_or_not : (v : Verdict) (met : State) → IsChange v ⊎ ((after v met ≡ met) × (is_retrieved v ≡ false))
   change_or_not verdict.Silent met = inr (refl, refl)
   change_or_not (verdict.Reply reply) met = inr (refl, refl)
   change_or_not (verdict.LongReply reply) met = inr (refl, refl)
-  change_or_not (verdict.Shows x body) met = inl tt
+  change_or_not (verdict.Retrieves x body) met = inl tt
   change_or_not (verdict.Accept reply entry) met = inl tt
 
   -- the same replies leave the same state
@@ -140,7 +140,7 @@ module _ (settings : SettingsValue) (state : State) (peer : ℕ) (datagram : Lis
       → sends_of i v peer ≡ sends_of j w peer → left_by asked met replies v ≡ left_by asked met replies w
   by_replies i j asked met replies v w d e same = by_change (change_or_not v met) (change_or_not w met)
     where
-      by_change : IsChange v ⊎ ((after v met ≡ met) × (is_shown v ≡ false)) → IsChange w ⊎ ((after w met ≡ met) × (is_shown w ≡ false)) → left_by asked met replies v ≡ left_by asked met replies w
+      by_change : IsChange v ⊎ ((after v met ≡ met) × (is_retrieved v ≡ false)) → IsChange w ⊎ ((after w met ≡ met) × (is_retrieved w ≡ false)) → left_by asked met replies v ≡ left_by asked met replies w
       by_change (inl a) other = ap (left_by asked met replies) (one_change i j v w d e same a)
       by_change (inr a) (inl b) = ap (left_by asked met replies) (sym (one_change j i w v e d (sym same) b))
       by_change (inr a) (inr b) = no_change asked met replies v w a.0 b.0 a.1 b.1

@@ -41,7 +41,7 @@ use Rattle.dots_machine.specs.declared.client_request.ClientRequest.{ClientReque
 use Rattle.dots_machine.specs.declared.mitigation_request.MitigationRequest.{MitigationRequest}
 use Rattle.dots_machine.specs.Verdict.{Verdict}
 use Rattle.dots_machine.specs.declared.verdict.Verdict.TheVariants as verdict
-use Rattle.dots_machine.specs.Domains.{domain_for, session_domain}
+use Rattle.dots_machine.specs.Domains.{domain_for, config_domain}
 use Rattle.target_rules.specs.Targets.{scope_fault}
 use Rattle.dots_machine.specs.MessageRepeats.{sent_for, unless_repeated}
 use Rattle.dots_machine.specs.Mitigations.{entry_of, sent_by, request_of, refusal, judged, client_for, get_reply, unless_faulty, put_answer, is_taken, delete_by, delete_answer, get_by, get_answer}
@@ -181,10 +181,10 @@ module _ (settings : SettingsValue) (state : State) where
         (λ d.
         of_mid x path.mid (delete_in known (asks_for peer x path d))
         (λ mid. of_repeat (known.repeated (sent_by (asks_for peer x path d))) (delete_answer known (asks_for peer x path d) mid) (of_delete (asks_for peer x path d) mid)))
-    of_request x (request.PutConfig sid body) = of_domain x (session_domain (role_of settings peer)) (put_config_for known peer x sid body) (of_put_config x sid body)
+    of_request x (request.PutConfig sid body) = of_domain x (config_domain (role_of settings peer)) (put_config_for known peer x sid body) (of_put_config x sid body)
     of_request x (request.GetConfig sid) =
-        of_domain x (session_domain (role_of settings peer)) (get_config_for known peer x sid) (λ d. of_view x sid (known.configured d peer))
-    of_request x (request.DeleteConfig sid) = of_domain x (session_domain (role_of settings peer)) (delete_config_for known peer x sid) (of_delete_config x sid)
+        of_domain x (config_domain (role_of settings peer)) (get_config_for known peer x sid) (λ d. of_view x sid (known.configured d peer))
+    of_request x (request.DeleteConfig sid) = of_domain x (config_domain (role_of settings peer)) (delete_config_for known peer x sid) (of_delete_config x sid)
     of_request x (request.PutHeartbeat heard) = tt
 
     of_option : (kind : Kind) (reply : List ℕ) → AcceptsAs (option_verdict kind reply)
@@ -249,7 +249,7 @@ module _ (settings : SettingsValue) (state : State) where
   verdict_keeps verdict.Silent how orderly = orderly
   verdict_keeps (verdict.Reply reply) how orderly = orderly
   verdict_keeps (verdict.LongReply reply) how orderly = orderly
-  verdict_keeps (verdict.Shows y body) how orderly = orderly
+  verdict_keeps (verdict.Retrieves y body) how orderly = orderly
   verdict_keeps (verdict.Accept reply entry) (inl granted) orderly = granted_keeps entry granted orderly
   verdict_keeps (verdict.Accept reply entry) (inr none) orderly = none_keeps entry none orderly
 

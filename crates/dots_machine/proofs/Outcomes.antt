@@ -31,7 +31,7 @@ use Rattle.dots_machine.specs.declared.client_request.ClientRequest.{ClientReque
 use Rattle.dots_machine.specs.declared.mitigation_request.MitigationRequest.{MitigationRequest}
 use Rattle.dots_machine.specs.Verdict.{Verdict}
 use Rattle.dots_machine.specs.declared.verdict.Verdict.TheVariants as verdict
-use Rattle.dots_machine.specs.Domains.{domain_for, session_domain}
+use Rattle.dots_machine.specs.Domains.{domain_for, config_domain}
 use Rattle.target_rules.specs.Targets.{scope_fault}
 use Rattle.dots_machine.specs.Replies.{grant_code, rejection, configuration_reply, absent}
 use Rattle.dots_machine.specs.MessageRepeats.{sent_for, unless_repeated}
@@ -201,11 +201,11 @@ module _ (settings : SettingsValue) (facts : Facts) where
   request_accepts peer x (request.DeleteMitigation path) domain found =
       in_domain_accepts x (domain_for settings (role_of settings peer) path.cdid) domain (delete_for facts peer x path) (deletes_accept peer x path) found
   request_accepts peer x (request.PutConfig sid body) domain found =
-      in_domain_accepts x (session_domain (role_of settings peer)) domain (put_config_for facts peer x sid body) (put_configs_accept peer x sid body) found
+      in_domain_accepts x (config_domain (role_of settings peer)) domain (put_config_for facts peer x sid body) (put_configs_accept peer x sid body) found
   request_accepts peer x (request.GetConfig sid) domain found =
-      in_domain_accepts x (session_domain (role_of settings peer)) domain (get_config_for facts peer x sid) (get_configs_accept peer x sid) found
+      in_domain_accepts x (config_domain (role_of settings peer)) domain (get_config_for facts peer x sid) (get_configs_accept peer x sid) found
   request_accepts peer x (request.DeleteConfig sid) domain found =
-      in_domain_accepts x (session_domain (role_of settings peer)) domain (delete_config_for facts peer x sid) (delete_configs_accept peer x sid) found
+      in_domain_accepts x (config_domain (role_of settings peer)) domain (delete_config_for facts peer x sid) (delete_configs_accept peer x sid) found
   request_accepts peer x (request.PutHeartbeat heard) domain found = tt
 
   -- where it accepts it tells a success
@@ -217,7 +217,7 @@ module _ (settings : SettingsValue) (facts : Facts) where
   of_domain domain verdict.Silent well = absurd well
   of_domain domain (verdict.Reply reply) well = tt
   of_domain domain (verdict.LongReply reply) well = tt
-  of_domain domain (verdict.Shows x body) well = tt
+  of_domain domain (verdict.Retrieves x body) well = tt
   of_domain domain (verdict.Accept reply entry) well = well.0
 
   in_domain_succeeds : (x : Exchange) (found : Option ℕ) (f : ℕ → Verdict) → ((d : ℕ) → AcceptsWell d (f d)) → SucceedsWell (in_domain x found f)
@@ -228,9 +228,9 @@ module _ (settings : SettingsValue) (facts : Facts) where
   asked_succeeds peer x (request.PutMitigation path body) = in_domain_succeeds x (domain_for settings (role_of settings peer) path.cdid) _ (puts_accept peer x path body)
   asked_succeeds peer x (request.GetMitigation path content observe) = in_domain_succeeds x (domain_for settings (role_of settings peer) path.cdid) _ (gets_accept peer x path content)
   asked_succeeds peer x (request.DeleteMitigation path) = in_domain_succeeds x (domain_for settings (role_of settings peer) path.cdid) _ (deletes_accept peer x path)
-  asked_succeeds peer x (request.PutConfig sid body) = in_domain_succeeds x (session_domain (role_of settings peer)) _ (put_configs_accept peer x sid body)
-  asked_succeeds peer x (request.GetConfig sid) = in_domain_succeeds x (session_domain (role_of settings peer)) _ (get_configs_accept peer x sid)
-  asked_succeeds peer x (request.DeleteConfig sid) = in_domain_succeeds x (session_domain (role_of settings peer)) _ (delete_configs_accept peer x sid)
+  asked_succeeds peer x (request.PutConfig sid body) = in_domain_succeeds x (config_domain (role_of settings peer)) _ (put_configs_accept peer x sid body)
+  asked_succeeds peer x (request.GetConfig sid) = in_domain_succeeds x (config_domain (role_of settings peer)) _ (get_configs_accept peer x sid)
+  asked_succeeds peer x (request.DeleteConfig sid) = in_domain_succeeds x (config_domain (role_of settings peer)) _ (delete_configs_accept peer x sid)
   asked_succeeds peer x (request.PutHeartbeat heard) = tt
 
   -- each request is answered
@@ -238,7 +238,7 @@ module _ (settings : SettingsValue) (facts : Facts) where
   speaks_for domain verdict.Silent well = absurd well
   speaks_for domain (verdict.Reply reply) well = tt
   speaks_for domain (verdict.LongReply reply) well = tt
-  speaks_for domain (verdict.Shows x body) well = tt
+  speaks_for domain (verdict.Retrieves x body) well = tt
   speaks_for domain (verdict.Accept reply entry) well = tt
 
   in_domain_speaks : (x : Exchange) (found : Option ℕ) (f : ℕ → Verdict) → ((d : ℕ) → AcceptsWell d (f d)) → Speaks (in_domain x found f)
@@ -249,16 +249,16 @@ module _ (settings : SettingsValue) (facts : Facts) where
   asked_speaks peer x (request.PutMitigation path body) = in_domain_speaks x (domain_for settings (role_of settings peer) path.cdid) _ (puts_accept peer x path body)
   asked_speaks peer x (request.GetMitigation path content observe) = in_domain_speaks x (domain_for settings (role_of settings peer) path.cdid) _ (gets_accept peer x path content)
   asked_speaks peer x (request.DeleteMitigation path) = in_domain_speaks x (domain_for settings (role_of settings peer) path.cdid) _ (deletes_accept peer x path)
-  asked_speaks peer x (request.PutConfig sid body) = in_domain_speaks x (session_domain (role_of settings peer)) _ (put_configs_accept peer x sid body)
-  asked_speaks peer x (request.GetConfig sid) = in_domain_speaks x (session_domain (role_of settings peer)) _ (get_configs_accept peer x sid)
-  asked_speaks peer x (request.DeleteConfig sid) = in_domain_speaks x (session_domain (role_of settings peer)) _ (delete_configs_accept peer x sid)
+  asked_speaks peer x (request.PutConfig sid body) = in_domain_speaks x (config_domain (role_of settings peer)) _ (put_configs_accept peer x sid body)
+  asked_speaks peer x (request.GetConfig sid) = in_domain_speaks x (config_domain (role_of settings peer)) _ (get_configs_accept peer x sid)
+  asked_speaks peer x (request.DeleteConfig sid) = in_domain_speaks x (config_domain (role_of settings peer)) _ (delete_configs_accept peer x sid)
   asked_speaks peer x (request.PutHeartbeat heard) = tt
 
   refusal_succeeds : (v : Verdict) → IsRefusal v → SucceedsWell v
   refusal_succeeds verdict.Silent none = tt
   refusal_succeeds (verdict.Reply reply) none = tt
   refusal_succeeds (verdict.LongReply reply) none = absurd none
-  refusal_succeeds (verdict.Shows x body) none = absurd none
+  refusal_succeeds (verdict.Retrieves x body) none = absurd none
   refusal_succeeds (verdict.Accept reply entry) none = absurd none
 
   dismissal_succeeds : (d : Dismissal) → SucceedsWell (dismissal_verdict d)

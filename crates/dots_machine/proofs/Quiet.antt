@@ -35,14 +35,14 @@ pub sends_size : (number : Option ℕ) (v : Verdict) (peer : ℕ) → length (se
 sends_size number verdict.Silent peer = refl
 sends_size number (verdict.Reply reply) peer = refl
 sends_size number (verdict.LongReply reply) peer = refl
-sends_size number (verdict.Shows x body) peer = refl
+sends_size number (verdict.Retrieves x body) peer = refl
 sends_size number (verdict.Accept reply entry) peer = refl
 
 speaks_once : (v : Verdict) → Speaks v → size_of v ≡ 1
 speaks_once verdict.Silent speaks = absurd speaks
 speaks_once (verdict.Reply reply) speaks = refl
 speaks_once (verdict.LongReply reply) speaks = refl
-speaks_once (verdict.Shows x body) speaks = refl
+speaks_once (verdict.Retrieves x body) speaks = refl
 speaks_once (verdict.Accept reply entry) speaks = refl
 
 bodily_speaks : (x : Exchange) (e : Reject) → IsBodily e → Speaks (reject_verdict x e)

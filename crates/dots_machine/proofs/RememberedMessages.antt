@@ -28,10 +28,10 @@ use Rattle.dots_machine.specs.declared.exchange.Exchange.{Exchange}
 use Rattle.dots_machine.specs.declared.client_request.ClientRequest.{ClientRequest}
 use Rattle.dots_machine.specs.Verdict.{Verdict}
 use Rattle.dots_machine.specs.declared.verdict.Verdict.TheVariants as verdict
-use Rattle.dots_machine.specs.Domains.{domain_for, session_domain}
+use Rattle.dots_machine.specs.Domains.{domain_for, config_domain}
 use Rattle.target_rules.specs.Targets.{scope_fault}
 use Rattle.dots_machine.specs.MessageRepeats.{sent_for, IsRepeatOf, unless_repeated}
-use Rattle.dots_machine.specs.RepeatRule.{heard_for}
+use Rattle.dots_machine.specs.RepeatRule.{remembered_for}
 use Rattle.dots_machine.specs.Mitigations.{key_of, entry_of, sent_by, request_of, refusal, judged, get_reply, unless_faulty, is_taken, delete_by, get_by, client_for}
 use Rattle.dots_machine.specs.Machine.{State, DecidesRequest, facts_in}
 use Rattle.dots_machine.specs.Apart.{domain_of}
@@ -43,7 +43,7 @@ use Rattle.session_core.specs.Negotiating.{negotiated}
 use Rattle.dots_machine.specs.Replies.{configuration_reply, absent}
 use Rattle.dots_machine.specs.Sessions.{Configured, sid_of, is_held}
 use Rattle.dots_machine.specs.Facts.{Facts}
-use Rattle.dots_machine.specs.Deciding.{in_domain, with_mid, put_in, put_for, delete_in, delete_for, get_for, session_entry, config_answer, put_config_for, clear_answer, delete_config_for, config_view, answer_to, asks_for}
+use Rattle.dots_machine.specs.Deciding.{in_domain, with_mid, put_in, put_for, delete_in, delete_for, get_for, config_entry, config_answer, put_config_for, clear_answer, delete_config_for, config_view, answer_to, asks_for}
 use Rattle.dots_machine.proofs.Verdicts.{request_valued}
 
 -- ---- an entry whose message may be repeated
@@ -74,7 +74,7 @@ unfolding is_signal
 withdrawal_is_signal mid = refl
 
 -- it may be repeated for so long
-may_still : (t id at : ℕ) (kind : Kind) → t ≤ at + heard_for kind → may_repeat t id at (key_of kind id) ≡ true
+may_still : (t id at : ℕ) (kind : Kind) → t ≤ at + remembered_for kind → may_repeat t id at (key_of kind id) ≡ true
 unfolding may_repeat
 may_still t id at Con early = and_from _ _ (eq-eqb id id refl) (le-leb t (at + 247) early)
 may_still t id at Non early = and_from _ _ (eq-eqb id id refl) (le-leb t (at + 145) early)
@@ -110,7 +110,7 @@ none_behind test (x ∷ xs) e ys zero y none less found = absurd (omega (arith, 
 none_behind test (x ∷ xs) e ys (suc j) y none less found = none_behind test xs e ys j y none (omega (arith, less)) found
 
 pub entry_is_repeated : (n t time peer : ℕ) (x : Exchange) (domain : ℕ) (reply : List ℕ) (before : List Entry) (entry : Entry) (later : List Entry)
-    → Keeps time peer x domain reply entry → t ≤ time + heard_for x.kind → tally (signals peer domain) later < n
+    → Keeps time peer x domain reply entry → t ≤ time + remembered_for x.kind → tally (signals peer domain) later < n
     → list_any (λ (e : Entry). signals peer domain e && may_repeat t x.id e.time e.key) later ≡ false
     → IsRepeatOf n t (before ++ entry ∷ later) (sent_for peer x domain) entry
 entry_is_repeated n t time peer x domain reply before entry later keeps early few none = record {
@@ -194,12 +194,12 @@ module _ (settings : SettingsValue) (facts : Facts) (peer : ℕ) (x : Exchange) 
         by_test true = tt
         by_test false = tell_keeps domain content _
 
-  session_keeps : (domain : ℕ) (reply : List ℕ) (made : Change) → is_signal made ≡ true → Keeps facts.time peer x domain reply (session_entry facts.time peer domain x reply made)
-  session_keeps domain reply made is =
-      record { time_is = refl; of_both = signal_of peer domain (session_entry facts.time peer domain x reply made) is refl refl; key_is = refl; reply_is = refl }
+  config_entry_keeps : (domain : ℕ) (reply : List ℕ) (made : Change) → is_signal made ≡ true → Keeps facts.time peer x domain reply (config_entry facts.time peer domain x reply made)
+  config_entry_keeps domain reply made is =
+      record { time_is = refl; of_both = signal_of peer domain (config_entry facts.time peer domain x reply made) is refl refl; key_is = refl; reply_is = refl }
 
   config_keeps : (sid domain : ℕ) (replaced : Bool) (r : Result Config ConfigFault) → KeepsFor domain (config_answer facts.time peer domain x sid replaced r)
-  config_keeps sid domain replaced (Ok config) = session_keeps domain _ (change.SetConfig sid config) (configuration_is_signal sid config)
+  config_keeps sid domain replaced (Ok config) = config_entry_keeps domain _ (change.SetConfig sid config) (configuration_is_signal sid config)
   config_keeps sid domain replaced (Err (Range key)) = tt
   config_keeps sid domain replaced (Err (OlderSid kept)) = tt
 
@@ -209,7 +209,7 @@ module _ (settings : SettingsValue) (facts : Facts) (peer : ℕ) (x : Exchange) 
       (config_keeps sid domain (is_held sid (facts.configured domain peer)) (negotiated (sid_of (facts.configured domain peer)) sid body))
 
   clear_keeps : (domain : ℕ) (there : Bool) → KeepsFor domain (clear_answer facts.time peer domain x there)
-  clear_keeps domain true = session_keeps domain _ change.ClearConfig clearing_is_signal
+  clear_keeps domain true = config_entry_keeps domain _ change.ClearConfig clearing_is_signal
   clear_keeps domain false = tt
 
   delete_config_keeps : (sid domain : ℕ) → KeepsFor domain (delete_config_for facts peer x sid domain)
@@ -233,7 +233,7 @@ module _ (settings : SettingsValue) (facts : Facts) (peer : ℕ) (x : Exchange) 
   of_domain domain verdict.Silent kept = tt
   of_domain domain (verdict.Reply reply) kept = tt
   of_domain domain (verdict.LongReply reply) kept = tt
-  of_domain domain (verdict.Shows y body) kept = tt
+  of_domain domain (verdict.Retrieves y body) kept = tt
   of_domain domain (verdict.Accept reply entry) kept = (domain, refl, kept)
 
   in_domain_keeps : (found : Option ℕ) (f : ℕ → Verdict) → ((d : ℕ) → KeepsFor d (f d)) → KeepsFound found (in_domain x found f)
@@ -244,9 +244,9 @@ module _ (settings : SettingsValue) (facts : Facts) (peer : ℕ) (x : Exchange) 
   asked_keeps (request.PutMitigation path body) = in_domain_keeps (domain_for settings (role_of settings peer) path.cdid) _ (λ d. put_keeps path d body)
   asked_keeps (request.GetMitigation path content observe) = in_domain_keeps (domain_for settings (role_of settings peer) path.cdid) _ (λ d. get_keeps path d content)
   asked_keeps (request.DeleteMitigation path) = in_domain_keeps (domain_for settings (role_of settings peer) path.cdid) _ (λ d. delete_keeps path d)
-  asked_keeps (request.PutConfig sid body) = in_domain_keeps (session_domain (role_of settings peer)) _ (put_config_keeps sid body)
-  asked_keeps (request.GetConfig sid) = in_domain_keeps (session_domain (role_of settings peer)) _ (λ d. view_keeps d sid (facts.configured d peer))
-  asked_keeps (request.DeleteConfig sid) = in_domain_keeps (session_domain (role_of settings peer)) _ (delete_config_keeps sid)
+  asked_keeps (request.PutConfig sid body) = in_domain_keeps (config_domain (role_of settings peer)) _ (put_config_keeps sid body)
+  asked_keeps (request.GetConfig sid) = in_domain_keeps (config_domain (role_of settings peer)) _ (λ d. view_keeps d sid (facts.configured d peer))
+  asked_keeps (request.DeleteConfig sid) = in_domain_keeps (config_domain (role_of settings peer)) _ (delete_config_keeps sid)
   asked_keeps (request.PutHeartbeat heard) = tt
 
 pub accepted_keeps : (settings : SettingsValue) (state : State) (peer : ℕ) (x : Exchange) (r : Request) (reply : List ℕ) (entry : Entry)
@@ -262,7 +262,7 @@ accepted_keeps settings state peer x r reply entry decides =
 pub accepted_is_repeated : (settings : SettingsValue) (state : State) (peer : ℕ) (x : Exchange) (r : Request) (reply : List ℕ) (entry : Entry)
     → DecidesRequest settings state peer x r (verdict.Accept reply entry)
     → (domain : ℕ) × (domain_of settings (role_of settings peer) r ≡ Some domain) × (entry.reply ≡ reply)
-    × ((t : ℕ) (later : List Entry) → t ≤ state.time + heard_for x.kind → tally (signals peer domain) later < settings.limits.remembered
+    × ((t : ℕ) (later : List Entry) → t ≤ state.time + remembered_for x.kind → tally (signals peer domain) later < settings.limits.remembered
     → list_any (λ (e : Entry). signals peer domain e && may_repeat t x.id e.time e.key) later ≡ false
     → IsRepeatOf settings.limits.remembered t (state.history ++ entry ∷ later) (sent_for peer x domain) entry)
 accepted_is_repeated settings state peer x r reply entry decides =

@@ -17,7 +17,7 @@ use Rattle.dots_history.specs.declared.entry.Entry.{Entry}
 use Rattle.dots_history.specs.Histories.{Within}
 use Rattle.dots_laws.specs.Fits.{last_or, last_time}
 use Rattle.dots_laws.proofs.Composing.{kept_later}
-use Rattle.slot_journal.specs.Kept.{HoldsKept}
+use Rattle.slot_journal.specs.Kept.{HasKept}
 use Rattle.dots_machine.specs.Verdict.{Verdict}
 use Rattle.dots_machine.specs.declared.verdict.Verdict.TheVariants as verdict
 use Rattle.dots_machine.specs.declared.ending.Stop.{Stop}
@@ -28,7 +28,7 @@ use Rattle.dots_machine.proofs.Hearing.{answer_history, answer_time, tick_histor
 use Rattle.dots_machine.proofs.Connections.{opens_history, opens_time}
 use Rattle.dots_machine.proofs.Fronts.{owed_then, fronts_grow, takes_grows, takes_time}
 use Rattle.dots_machine.proofs.Observing.{told_history}
-use Rattle.dots_machine.specs.Surviving.{Story, told_by, entries_shown, shown, time_shown, time_at, past_of, NoneBefore, MeansAt, EachFrom, LeavesAt}
+use Rattle.dots_machine.specs.Surviving.{Story, shown_by, entries_shown, shown, time_shown, time_at, past_of, NoneBefore, MeansAt, EachFrom, LeavesAt}
 
 -- ---- runs with all that they tell
 
@@ -135,7 +135,7 @@ few_told (took e at) out told b n most s less few = absurd s
 few_told (gave o d) out told true n most s less few = few
 few_told (gave o d) out told false n most s less few = less
 
-shown_sends : (m moment : ℕ) (owed : List (State × OwnedOut)) (acts : List Timed) (n most : ℕ) → Gives moment (outs_of owed) acts → n ≤ most → TellFew most owed → shown m acts (told_by owed) n ≤ most
+shown_sends : (m moment : ℕ) (owed : List (State × OwnedOut)) (acts : List Timed) (n most : ℕ) → Gives moment (outs_of owed) acts → n ≤ most → TellFew most owed → shown m acts (shown_by owed) n ≤ most
 shown_sends m moment [] [] n most g less few = less
 shown_sends m moment [] (timed ∷ acts) n most g less few = absurd g
 shown_sends m moment (send ∷ owed) [] n most g less few = absurd g
@@ -148,14 +148,14 @@ no_time_told (took e at) out told b t s = absurd s
 no_time_told (gave o d) out told true t s = refl
 no_time_told (gave o d) out told false t s = refl
 
-time_sends : (m moment : ℕ) (owed : List (State × OwnedOut)) (acts : List Timed) (t : ℕ) → Gives moment (outs_of owed) acts → time_at m acts (told_by owed) t ≡ t
+time_sends : (m moment : ℕ) (owed : List (State × OwnedOut)) (acts : List Timed) (t : ℕ) → Gives moment (outs_of owed) acts → time_at m acts (shown_by owed) t ≡ t
 time_sends m moment [] [] t g = refl
 time_sends m moment [] (timed ∷ acts) t g = absurd g
 time_sends m moment (send ∷ owed) [] t g = absurd g
 time_sends m moment (send ∷ owed) (timed ∷ acts) t g =
-    ap (λ u. time_at m acts (told_by owed) u) (no_time_told timed.act send.1 send.0 (nat_lt timed.moment m) t g.1) ∙ time_sends m (moment + 1) owed acts t g.2
+    ap (λ u. time_at m acts (shown_by owed) u) (no_time_told timed.act send.1 send.0 (nat_lt timed.moment m) t g.1) ∙ time_sends m (moment + 1) owed acts t g.2
 
-gives_length : (m : ℕ) (owed : List (State × OwnedOut)) (acts : List Timed) → Gives m (outs_of owed) acts → length acts ≡ length (told_by owed)
+gives_length : (m : ℕ) (owed : List (State × OwnedOut)) (acts : List Timed) → Gives m (outs_of owed) acts → length acts ≡ length (shown_by owed)
 gives_length m [] [] g = refl
 gives_length m [] (timed ∷ acts) g = absurd g
 gives_length m (send ∷ owed) [] g = absurd g
@@ -219,7 +219,7 @@ pub verdict_grows : (v : Verdict) (state : State) → Grows state (after v state
 verdict_grows verdict.Silent state = same_grows state state refl
 verdict_grows (verdict.Reply reply) state = same_grows state state refl
 verdict_grows (verdict.LongReply reply) state = same_grows state state refl
-verdict_grows (verdict.Shows y body) state = same_grows state state refl
+verdict_grows (verdict.Retrieves y body) state = same_grows state state refl
 verdict_grows (verdict.Accept reply entry) state = (entry ∷ [], refl)
 
 -- a step adds to the history, or leaves it
@@ -240,7 +240,7 @@ after_time : (v : Verdict) (state : State) → (after v state).time ≡ state.ti
 after_time verdict.Silent state = refl
 after_time (verdict.Reply reply) state = refl
 after_time (verdict.LongReply reply) state = refl
-after_time (verdict.Shows y body) state = refl
+after_time (verdict.Retrieves y body) state = refl
 after_time (verdict.Accept reply entry) state = refl
 
 moved_on : (old new : State) (at : ℕ) → last_time old.history ≤ old.time → new.time ≡ max at old.time → last_time old.history ≤ new.time
@@ -324,7 +324,7 @@ leaves_at_so (Some old) (Some new) P R goes leaves = (
 
 -- an image of a disk at rest has what a read gives
 pub image_rests : (medium : Medium) (image : ℕ → ℕ) (R : (ℕ → ℕ) → Type 0) → medium.pending ≡ [] → R medium.seen → IsImage medium image → R image
-image_rests medium image R none holds is = subst R (sym (fun_ext (image_at_rest medium image none is))) holds
+image_rests medium image R none image_has is = subst R (sym (fun_ext (image_at_rest medium image none is))) image_has
 
 -- a disk that rests, and on which nothing is written, has the same at each moment
 pub rests_on : (old new : Option Media) (R : (ℕ → ℕ) → Type 0) → RestsWith old R → KeepsMedia old new → Leaves old new R
@@ -379,8 +379,8 @@ either_way true n = refl
 either_way false n = refl
 
 module _ (settings : SettingsValue) (start : State) where
-  abbrev HoldsFrom : ℕ → List Entry → (ℕ → ℕ) → Type 0
-  HoldsFrom t history image = HoldsKept settings settings.limits.remembered t history image
+  abbrev HasFrom : ℕ → List Entry → (ℕ → ℕ) → Type 0
+  HasFrom t history image = HasKept settings settings.limits.remembered t history image
 
   abbrev first_entries : ℕ
   first_entries = length start.history
@@ -392,8 +392,8 @@ module _ (settings : SettingsValue) (start : State) where
     count = stands.count;
     within = let within = stands.within in let longer = length-append history extra in omega (arith, within, longer);
     has_shown = subst (λ n. n ≤ stands.count) (sym (shown_then m acts more trace told first_entries same ∙ shown_late m more told (shown m acts trace first_entries) late)) stands.has_shown;
-    holds = subst (λ t. HoldsFrom t (take stands.count (history ++ extra)) image) (sym (time_then m acts more trace told start.time same ∙ time_late m more told (time_at m acts trace start.time) late))
-        (subst (λ es. HoldsFrom (time_at m acts trace start.time) es image) (sym (take_front stands.count history extra stands.within)) stands.holds);
+    image_has = subst (λ t. HasFrom t (take stands.count (history ++ extra)) image) (sym (time_then m acts more trace told start.time same ∙ time_late m more told (time_at m acts trace start.time) late))
+        (subst (λ es. HasFrom (time_at m acts trace start.time) es image) (sym (take_front stands.count history extra stands.within)) stands.image_has);
   }
 
   -- how a run stands in the middle of an event, with this history and time: it survived so far
@@ -407,7 +407,7 @@ module _ (settings : SettingsValue) (start : State) where
 
   module _ (acts : List Timed) (trace : List State) (history : List Entry) (first a b : Option Media) (moment at : ℕ) (what : Event) (new : State)
       (same : length acts ≡ length trace) (bounded : (m : ℕ) → shown m acts trace first_entries ≤ length history) (here : past_of a ≡ moment)
-      (leaves : LeavesAt first a (MeansAt settings start acts trace history)) (rests : RestsWith a (HoldsFrom new.time history)) (keeps : KeepsMedia a b) where
+      (leaves : LeavesAt first a (MeansAt settings start acts trace history)) (rests : RestsWith a (HasFrom new.time history)) (keeps : KeepsMedia a b) where
     abbrev event_taken : Timed
     event_taken = record { moment = moment; act = took what at }
 
@@ -423,7 +423,7 @@ module _ (settings : SettingsValue) (start : State) where
         ∙ ap (λ b. if b then new.time else time_at m acts trace start.time) (earlier moment m less)
 
     a_to_b : past_of a ≤ past_of b
-    a_to_b = keeps_past a b (HoldsFrom new.time history) rests keeps
+    a_to_b = keeps_past a b (HasFrom new.time history) rests keeps
 
     before_taken : LeavesAt first a Taken
     before_taken =
@@ -431,13 +431,13 @@ module _ (settings : SettingsValue) (start : State) where
         subst (λ es. MeansAt settings start (acts ++ event_taken ∷ []) (trace ++ new ∷ []) es k image) (append-nil history)
         (older acts (event_taken ∷ []) trace (new ∷ []) history [] k image same (omega (arith, under, here), tt) stands)) leaves
 
-    still_held : (k : ℕ) → past_of a < k → k ≤ past_of b → (image : ℕ → ℕ) → HoldsFrom new.time history image → Taken k image
-    still_held k low high image holds = record {
+    still_held : (k : ℕ) → past_of a < k → k ≤ past_of b → (image : ℕ → ℕ) → HasFrom new.time history image → Taken k image
+    still_held k low high image image_has = record {
       count = length history;
       within = le_refl (length history);
       has_shown = subst (λ n. n ≤ length history) (sym (shown_taken k)) (bounded k);
-      holds = subst (λ t. HoldsFrom t (take (length history) history) image) (sym (time_taken k (omega (arith, low, here))))
-          (subst (λ es. HoldsFrom new.time es image) (sym (take_all history)) holds);
+      image_has = subst (λ t. HasFrom t (take (length history) history) image) (sym (time_taken k (omega (arith, low, here))))
+          (subst (λ es. HasFrom new.time es image) (sym (take_all history)) image_has);
     }
 
     pub event_on : IsAt history new.time first b (acts ++ event_taken ∷ []) (trace ++ new ∷ [])
@@ -449,29 +449,29 @@ module _ (settings : SettingsValue) (start : State) where
       bounded = λ m. subst (λ n. n ≤ length history) (sym (shown_taken m)) (bounded m);
       timed = λ m less. time_taken m (let p = a_to_b in omega (arith, less, p, here));
       survives = leaves_at_then Taken first a b before_taken
-          (leaves_there Taken a b (HoldsFrom new.time history) (HoldsFrom new.time history) rests still_held (rests_on a b (HoldsFrom new.time history) rests keeps));
+          (leaves_there Taken a b (HasFrom new.time history) (HasFrom new.time history) rests still_held (rests_on a b (HasFrom new.time history) rests keeps));
     }
 
   -- ---- a turn of the event
 
   module _ (history extra : List Entry) (new : State) (time : ℕ) (first a c : Option Media) (acts more : List Timed) (trace : List State) (outs : List OwnedOut) (moment : ℕ)
       (grows : new.history ≡ history ++ extra) (late : past_of c ≤ moment) (gave_them : Gives moment outs more)
-      (here : IsAt history time first a acts trace) (rests : RestsWith a (HoldsFrom time history))
-      (writes : Leaves a c (λ image. HoldsFrom time history image ⊎ HoldsFrom time new.history image)) where
+      (here : IsAt history time first a acts trace) (rests : RestsWith a (HasFrom time history))
+      (writes : Leaves a c (λ image. HasFrom time history image ⊎ HasFrom time new.history image)) where
     abbrev owed : List (State × OwnedOut)
     owed = each_telling new outs
 
     abbrev Before : (ℕ → ℕ) → Type 0
-    Before = HoldsFrom time history
+    Before = HasFrom time history
 
     abbrev After : (ℕ → ℕ) → Type 0
-    After = HoldsFrom time new.history
+    After = HasFrom time new.history
 
     abbrev Either : (ℕ → ℕ) → Type 0
-    Either image = HoldsFrom time history image ⊎ HoldsFrom time new.history image
+    Either image = HasFrom time history image ⊎ HasFrom time new.history image
 
     abbrev Whole : ℕ → (ℕ → ℕ) → Type 0
-    Whole m image = MeansAt settings start (acts ++ more) (trace ++ told_by owed) new.history m image
+    Whole m image = MeansAt settings start (acts ++ more) (trace ++ shown_by owed) new.history m image
 
     gives : Gives moment (outs_of owed) more
     gives = subst (λ xs. Gives moment xs more) (sym (outs_back new outs)) gave_them
@@ -485,41 +485,41 @@ module _ (settings : SettingsValue) (start : State) where
     a_to_c : past_of a ≤ past_of c
     a_to_c = leaves_past a c Before Either rests writes
 
-    shown_on : (m : ℕ) → shown m (acts ++ more) (trace ++ told_by owed) first_entries ≡ shown m more (told_by owed) (shown m acts trace first_entries)
-    shown_on m = shown_then m acts more trace (told_by owed) first_entries here.same
+    shown_on : (m : ℕ) → shown m (acts ++ more) (trace ++ shown_by owed) first_entries ≡ shown m more (shown_by owed) (shown m acts trace first_entries)
+    shown_on m = shown_then m acts more trace (shown_by owed) first_entries here.same
 
-    time_on : (m : ℕ) → past_of a < m → time_at m (acts ++ more) (trace ++ told_by owed) start.time ≡ time
+    time_on : (m : ℕ) → past_of a < m → time_at m (acts ++ more) (trace ++ shown_by owed) start.time ≡ time
     time_on m less =
-        time_then m acts more trace (told_by owed) start.time here.same
+        time_then m acts more trace (shown_by owed) start.time here.same
         ∙ time_sends m moment owed more (time_at m acts trace start.time) gives ∙ here.timed m less
 
-    none_shown : (m : ℕ) → m ≤ moment → shown m more (told_by owed) (shown m acts trace first_entries) ≡ shown m acts trace first_entries
-    none_shown m le = shown_late m more (told_by owed) (shown m acts trace first_entries) (gives_late m moment (outs_of owed) more le gives)
+    none_shown : (m : ℕ) → m ≤ moment → shown m more (shown_by owed) (shown m acts trace first_entries) ≡ shown m acts trace first_entries
+    none_shown m le = shown_late m more (shown_by owed) (shown m acts trace first_entries) (gives_late m moment (outs_of owed) more le gives)
 
     -- at a moment of the turn, with so many entries on the disk
-    with_count : (m count : ℕ) (image : ℕ → ℕ) → past_of a < m → count ≤ length new.history → shown m more (told_by owed) (shown m acts trace first_entries) ≤ count
-        → HoldsFrom time (take count new.history) image → Whole m image
-    with_count m count image less within told holds = record {
+    with_count : (m count : ℕ) (image : ℕ → ℕ) → past_of a < m → count ≤ length new.history → shown m more (shown_by owed) (shown m acts trace first_entries) ≤ count
+        → HasFrom time (take count new.history) image → Whole m image
+    with_count m count image less within told image_has = record {
       count = count;
       within = within;
       has_shown = subst (λ n. n ≤ count) (sym (shown_on m)) told;
-      holds = subst (λ t. HoldsFrom t (take count new.history) image) (sym (time_on m less)) holds;
+      image_has = subst (λ t. HasFrom t (take count new.history) image) (sym (time_on m less)) image_has;
     }
 
     -- before the first send the disk has the old entries or the new ones
     unsent : (m : ℕ) (image : ℕ → ℕ) → past_of a < m → m ≤ moment → Either image → Whole m image
-    unsent m image less le (inl holds) =
+    unsent m image less le (inl image_has) =
         with_count m (length history) image less longer
         (subst (λ n. n ≤ length history) (sym (none_shown m le)) (here.bounded m))
-        (subst (λ es. HoldsFrom time es image) (sym front_is) holds)
-    unsent m image less le (inr holds) =
+        (subst (λ es. HasFrom time es image) (sym front_is) image_has)
+    unsent m image less le (inr image_has) =
         let told = here.bounded m in
         let more_there = longer in
         with_count m (length new.history) image less (le_refl (length new.history))
         (subst (λ n. n ≤ length new.history) (sym (none_shown m le)) (omega (arith, told, more_there)))
-        (subst (λ es. HoldsFrom time es image) (sym (take_all new.history)) holds)
+        (subst (λ es. HasFrom time es image) (sym (take_all new.history)) image_has)
 
-    few_shown : (m : ℕ) → shown m more (told_by owed) (shown m acts trace first_entries) ≤ length new.history
+    few_shown : (m : ℕ) → shown m more (shown_by owed) (shown m acts trace first_entries) ≤ length new.history
     few_shown m =
         let told = here.bounded m in
         let more_there = longer in
@@ -527,30 +527,30 @@ module _ (settings : SettingsValue) (start : State) where
 
     -- and then the new ones alone
     sent : (m : ℕ) (image : ℕ → ℕ) → past_of a < m → After image → Whole m image
-    sent m image less holds =
+    sent m image less image_has =
         with_count m (length new.history) image less (le_refl (length new.history)) (few_shown m)
-        (subst (λ es. HoldsFrom time es image) (sym (take_all new.history)) holds)
+        (subst (λ es. HasFrom time es image) (sym (take_all new.history)) image_has)
 
     -- it was written
     written : LeavesAt first c Whole
     written =
         leaves_at_then Whole first a c
         (leaves_at_so first a (MeansAt settings start acts trace history) Whole (λ k under image stands.
-        subst (λ es. MeansAt settings start (acts ++ more) (trace ++ told_by owed) es k image) (sym grows)
-        (older acts more trace (told_by owed) history extra k image here.same
+        subst (λ es. MeansAt settings start (acts ++ more) (trace ++ shown_by owed) es k image) (sym grows)
+        (older acts more trace (shown_by owed) history extra k image here.same
         (gives_late k moment (outs_of owed) more (let p = a_to_c in omega (arith, under, p, late)) gives) stands)) here.survives)
-        (leaves_there Whole a c Before Either rests (λ k low high image holds. unsent k image low (omega (arith, high, late)) holds) writes)
+        (leaves_there Whole a c Before Either rests (λ k low high image image_has. unsent k image low (omega (arith, high, late)) image_has) writes)
 
-    same_on : length (acts ++ more) ≡ length (trace ++ told_by owed)
+    same_on : length (acts ++ more) ≡ length (trace ++ shown_by owed)
     same_on =
         let l = length-append acts more in
-        let t = length-append trace (told_by owed) in
+        let t = length-append trace (shown_by owed) in
         let s = here.same in
         let g = gives_length moment owed more gives in
         omega (arith, l, t, s, g)
 
     -- and then it was sent
-    pub turn_on : (d : Option Media) → RestsWith c After → KeepsMedia c d → IsAt new.history time first d (acts ++ more) (trace ++ told_by owed)
+    pub turn_on : (d : Option Media) → RestsWith c After → KeepsMedia c d → IsAt new.history time first d (acts ++ more) (trace ++ shown_by owed)
     turn_on d rests_c sends =
         let p = a_to_c in
         let q = keeps_past c d After rests_c sends in
@@ -559,13 +559,13 @@ module _ (settings : SettingsValue) (start : State) where
           bounded = λ m. subst (λ n. n ≤ length new.history) (sym (shown_on m)) (few_shown m);
           timed = λ m less. time_on m (omega (arith, less, p, q));
           survives = leaves_at_then Whole first c d written
-              (leaves_there Whole c d After After rests_c (λ k low high image holds. sent k image (omega (arith, low, p)) holds) (rests_on c d After rests_c sends));
+              (leaves_there Whole c d After After rests_c (λ k low high image image_has. sent k image (omega (arith, low, p)) image_has) (rests_on c d After rests_c sends));
         }
 
   -- a turn that was being written when the disk failed: nothing of it was sent
   pub broken_on : (history extra : List Entry) (new : State) (time : ℕ) (first a c : Option Media) (acts : List Timed) (trace : List State) → new.history ≡ history ++ extra
-      → IsAt history time first a acts trace → RestsWith a (HoldsFrom time history)
-      → Leaves a c (λ image. HoldsFrom time history image ⊎ HoldsFrom time new.history image)
+      → IsAt history time first a acts trace → RestsWith a (HasFrom time history)
+      → Leaves a c (λ image. HasFrom time history image ⊎ HasFrom time new.history image)
       → LeavesAt first c (MeansAt settings start acts trace new.history)
   broken_on history extra new time first a c acts trace grows here rests writes =
       subst (λ xs. LeavesAt first c (MeansAt settings start xs trace new.history)) (append-nil acts)
@@ -575,22 +575,22 @@ module _ (settings : SettingsValue) (start : State) where
 -- ---- the opening, before the first event
 
 pub survives_opening : (settings : SettingsValue) (start : State) (first a b : Option Media) (acts : List Timed) (trace : List State) (history extra : List Entry) → history ≡ start.history ++ extra → NoneBefore (past_of a) acts
-    → (Any : (ℕ → ℕ) → Type 0) → RestsWith first Any → Leaves first a (HoldsKept settings settings.limits.remembered start.time start.history)
+    → (Any : (ℕ → ℕ) → Type 0) → RestsWith first Any → Leaves first a (HasKept settings settings.limits.remembered start.time start.history)
     → LeavesAt a b (MeansAt settings start acts trace history) → LeavesAt first b (MeansAt settings start acts trace history)
 survives_opening settings start first a b acts trace history extra grown late Any rests leaves rest =
     let Whole : ℕ → (ℕ → ℕ) → Type 0 = λ m image. MeansAt settings start acts trace history m image in
-    let Before : (ℕ → ℕ) → Type 0 = λ image. HoldsKept settings settings.limits.remembered start.time start.history image in
+    let Before : (ℕ → ℕ) → Type 0 = λ image. HasKept settings settings.limits.remembered start.time start.history image in
     leaves_at_then Whole first a b (leaves_there Whole first a Any Before rests opened leaves) rest
   where
-    opened : (k : ℕ) → past_of first < k → k ≤ past_of a → (image : ℕ → ℕ) → HoldsKept settings settings.limits.remembered start.time start.history image → MeansAt settings start acts trace history k image
-    opened k low high image holds =
+    opened : (k : ℕ) → past_of first < k → k ≤ past_of a → (image : ℕ → ℕ) → HasKept settings settings.limits.remembered start.time start.history image → MeansAt settings start acts trace history k image
+    opened k low high image image_has =
         let none = none_earlier k (past_of a) acts high late in record {
           count = length start.history;
           within = let longer = ap length grown ∙ length-append start.history extra in omega (arith, longer);
           has_shown = subst (λ n. n ≤ length start.history) (sym (shown_late k acts trace (length start.history) none)) (le_refl (length start.history));
-          holds = subst (λ t. HoldsKept settings settings.limits.remembered t (take (length start.history) history) image) (sym (time_late k acts trace start.time none))
-              (subst (λ es. HoldsKept settings settings.limits.remembered start.time es image)
-              (sym (ap (take (length start.history)) grown ∙ take_front (length start.history) start.history extra (le_refl (length start.history)) ∙ take_all start.history)) holds);
+          image_has = subst (λ t. HasKept settings settings.limits.remembered t (take (length start.history) history) image) (sym (time_late k acts trace start.time none))
+              (subst (λ es. HasKept settings settings.limits.remembered start.time es image)
+              (sym (ap (take (length start.history)) grown ∙ take_front (length start.history) start.history extra (le_refl (length start.history)) ∙ take_all start.history)) image_has);
         }
 
 -- ---- time
@@ -603,6 +603,6 @@ pub within_last : (high : ℕ) (xs : List Entry) → Within 0 xs high → last_t
 within_last high xs within = within_or 0 0 high xs (le_refl 0) within
 
 -- entries that a disk holds with the view of a history have it later too
-pub holds_later : (settings : SettingsValue) (t u : ℕ) (history : List Entry) (image : ℕ → ℕ) → t ≤ u → HoldsKept settings settings.limits.remembered t history image → HoldsKept settings settings.limits.remembered u history image
-holds_later settings t u history image le held =
-    record { entries = held.entries; holds = held.holds; calm = held.calm; kept = kept_later settings.limits.remembered t u held.entries history le held.kept }
+pub has_later : (settings : SettingsValue) (t u : ℕ) (history : List Entry) (image : ℕ → ℕ) → t ≤ u → HasKept settings settings.limits.remembered t history image → HasKept settings settings.limits.remembered u history image
+has_later settings t u history image le held =
+    record { entries = held.entries; image_has = held.image_has; calm = held.calm; kept = kept_later settings.limits.remembered t u held.entries history le held.kept }

@@ -32,7 +32,7 @@ use Rattle.dots_machine.specs.declared.received.Received.TheVariants as received
 use Rattle.dots_machine.specs.declared.client_request.ClientRequest.{ClientRequest}
 use Rattle.dots_machine.specs.declared.mitigation_request.MitigationRequest.{MitigationRequest}
 use Rattle.dots_machine.specs.Verdict.{Verdict}
-use Rattle.dots_machine.specs.Domains.{domain_for, session_domain}
+use Rattle.dots_machine.specs.Domains.{domain_for, config_domain}
 use Rattle.target_rules.specs.Targets.{scope_fault}
 use Rattle.dots_machine.specs.MessageRepeats.{Sent, sent_for, Repeats, unless_repeated}
 use Rattle.dots_keys.specs.declared.request.ConfigBody.{ConfigBody}
@@ -203,12 +203,12 @@ module _ (settings : SettingsValue) (t : ℕ) (history : List Entry) where
           in_domain_is x (domain_for settings (role_of settings peer) path.cdid) (delete_for facts peer x path) (delete_for read peer x path)
           (λ d. with_mid_is x path.mid (delete_in facts (asks_for peer x path d)) (delete_in read (asks_for peer x path d)) (delete_is (asks_for peer x path d)))
       answer_is (request.PutConfig sid body) =
-          in_domain_is x (session_domain (role_of settings peer)) (put_config_for facts peer x sid body) (put_config_for read peer x sid body) (put_config_is sid body)
+          in_domain_is x (config_domain (role_of settings peer)) (put_config_for facts peer x sid body) (put_config_for read peer x sid body) (put_config_is sid body)
       answer_is (request.GetConfig sid) =
-          in_domain_is x (session_domain (role_of settings peer)) (get_config_for facts peer x sid) (get_config_for read peer x sid)
+          in_domain_is x (config_domain (role_of settings peer)) (get_config_for facts peer x sid) (get_config_for read peer x sid)
           (λ d. ap (config_view x sid) (are.configured d peer))
       answer_is (request.DeleteConfig sid) =
-          in_domain_is x (session_domain (role_of settings peer)) (delete_config_for facts peer x sid) (delete_config_for read peer x sid) (delete_config_is sid)
+          in_domain_is x (config_domain (role_of settings peer)) (delete_config_for facts peer x sid) (delete_config_for read peer x sid) (delete_config_is sid)
       answer_is (request.PutHeartbeat heard) = refl
 
     say_is : (peer : ℕ) (got : Received) → rules_say settings facts peer got ≡ rules_say settings read peer got

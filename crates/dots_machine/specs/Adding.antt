@@ -41,7 +41,7 @@ pub record AcceptsFront (settings : SettingsValue) (conn : ℕ) (state : State) 
   pub line : Line
   pub there : line_of conn state.lines ≡ Some line
   pub message : HttpRequest
-  pub cut : IsCut line.held (takes message)
+  pub cut : IsCut line.buffered (takes message)
   pub asked : RestRequest
   pub means : Rest message (Ok asked)
   pub reply : List ℕ

@@ -63,9 +63,9 @@ pub record PartWays (settings : SettingsValue) (conn : ℕ) (state : State) (sen
   pub there : line_of conn met.lines ≡ Some line
   pub one : RestFront
   pub other : RestFront
-  pub stands : IsFront settings met.time met.history caller line.held one
-  pub stands_too : IsFront settings met.time met.history caller line.held other
-  pub differ : LackMemory one other ⊎ IsEarly line.held one other
+  pub stands : IsFront settings met.time met.history caller line.buffered one
+  pub stands_too : IsFront settings met.time met.history caller line.buffered other
+  pub differ : LackMemory one other ⊎ IsEarly line.buffered one other
   pub more : List OwnedOut
   pub rest : List OwnedOut
   pub first : sends ≡ outs_of (owed_in turns) ++ (sends_of conn one ++ more)

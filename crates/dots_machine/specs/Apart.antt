@@ -10,7 +10,7 @@ use Rattle.dots_settings.specs.declared.peer.Role.{Role}
 use Rattle.dots_settings.specs.Settings.{SettingsValue}
 use Rattle.dots_history.specs.Histories.{alone}
 use Rattle.dots_settings.specs.Lookups.{role_of}
-use Rattle.dots_machine.specs.Domains.{is_gateway, domain_for, session_domain}
+use Rattle.dots_machine.specs.Domains.{is_gateway, domain_for, config_domain}
 use Rattle.dots_machine.specs.declared.exchange.Exchange.{Exchange}
 use Rattle.dots_machine.specs.Requests.{IsReceived}
 use Rattle.dots_machine.specs.Verdict.{Verdict}
@@ -29,9 +29,9 @@ abbrev pub domain_of : SettingsValue → Role → Request → Option ℕ
 domain_of settings who (request.PutMitigation path body) = domain_for settings who path.cdid
 domain_of settings who (request.GetMitigation path content observe) = domain_for settings who path.cdid
 domain_of settings who (request.DeleteMitigation path) = domain_for settings who path.cdid
-domain_of settings who (request.PutConfig sid body) = session_domain who
-domain_of settings who (request.GetConfig sid) = session_domain who
-domain_of settings who (request.DeleteConfig sid) = session_domain who
+domain_of settings who (request.PutConfig sid body) = config_domain who
+domain_of settings who (request.GetConfig sid) = config_domain who
+domain_of settings who (request.DeleteConfig sid) = config_domain who
 domain_of settings who (request.PutHeartbeat heard) = None
 
 -- the event is a request for this domain

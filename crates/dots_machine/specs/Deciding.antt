@@ -19,7 +19,7 @@ use Rattle.dots_machine.specs.declared.exchange.Exchange.{Exchange}
 use Rattle.dots_machine.specs.declared.client_request.ClientRequest.{ClientRequest}
 use Rattle.dots_machine.specs.Verdict.{Verdict}
 use Rattle.dots_machine.specs.declared.verdict.Verdict.TheVariants as verdict
-use Rattle.dots_machine.specs.Domains.{domain_for, session_domain}
+use Rattle.dots_machine.specs.Domains.{domain_for, config_domain}
 use Rattle.dots_machine.specs.Replies.{bad_parameter, configuring, older_sid, out_of_range, configuration_reply, deleted, absent, heartbeat_reply}
 use Rattle.dots_machine.specs.MessageRepeats.{sent_for, unless_repeated}
 use Rattle.dots_machine.specs.Sessions.{Configured, sid_of, is_held}
@@ -59,8 +59,8 @@ get_for facts peer exchange path content domain = get_answer facts (asks_for pee
 -- ---- the configuration of a session (RFC 9132, section 4.5), for the domain in which the peer configures it
 
 -- what is kept of a change of it, which is of no client
-abbrev pub session_entry : ℕ → ℕ → ℕ → Exchange → List ℕ → Change → Entry
-session_entry time peer domain exchange reply change = record {
+abbrev pub config_entry : ℕ → ℕ → ℕ → Exchange → List ℕ → Change → Entry
+config_entry time peer domain exchange reply change = record {
   time = time;
   peer = peer;
   domain = domain;
@@ -73,7 +73,7 @@ session_entry time peer domain exchange reply change = record {
 -- a configuration is set under a sid, in place of that of the same sid, or of a lower one; or it is refused
 abbrev pub config_answer : ℕ → ℕ → ℕ → Exchange → ℕ → Bool → Result Config ConfigFault → Verdict
 config_answer time peer domain exchange sid replaced (Ok config) =
-    verdict.Accept (configuring exchange replaced) (session_entry time peer domain exchange (configuring exchange replaced) (change.SetConfig sid config))
+    verdict.Accept (configuring exchange replaced) (config_entry time peer domain exchange (configuring exchange replaced) (change.SetConfig sid config))
 config_answer time peer domain exchange sid replaced (Err (Range key)) = verdict.Reply (out_of_range exchange key)
 config_answer time peer domain exchange sid replaced (Err (OlderSid kept)) = verdict.Reply (older_sid exchange)
 
@@ -84,7 +84,7 @@ put_config_for facts peer exchange sid body domain =
 
 -- it is given up, where it has this sid; any other is gone already
 abbrev pub clear_answer : ℕ → ℕ → ℕ → Exchange → Bool → Verdict
-clear_answer time peer domain exchange true = verdict.Accept (deleted exchange) (session_entry time peer domain exchange (deleted exchange) change.ClearConfig)
+clear_answer time peer domain exchange true = verdict.Accept (deleted exchange) (config_entry time peer domain exchange (deleted exchange) change.ClearConfig)
 clear_answer time peer domain exchange false = verdict.Reply (deleted exchange)
 
 abbrev pub delete_config_for : Facts → ℕ → Exchange → ℕ → ℕ → Verdict
@@ -110,9 +110,9 @@ answer_to settings facts peer exchange (request.GetMitigation path content obser
 answer_to settings facts peer exchange (request.DeleteMitigation path) =
     in_domain exchange (domain_for settings (role_of settings peer) path.cdid) (delete_for facts peer exchange path)
 answer_to settings facts peer exchange (request.PutConfig sid body) =
-    in_domain exchange (session_domain (role_of settings peer)) (put_config_for facts peer exchange sid body)
+    in_domain exchange (config_domain (role_of settings peer)) (put_config_for facts peer exchange sid body)
 answer_to settings facts peer exchange (request.GetConfig sid) =
-    in_domain exchange (session_domain (role_of settings peer)) (get_config_for facts peer exchange sid)
+    in_domain exchange (config_domain (role_of settings peer)) (get_config_for facts peer exchange sid)
 answer_to settings facts peer exchange (request.DeleteConfig sid) =
-    in_domain exchange (session_domain (role_of settings peer)) (delete_config_for facts peer exchange sid)
+    in_domain exchange (config_domain (role_of settings peer)) (delete_config_for facts peer exchange sid)
 answer_to settings facts peer exchange (request.PutHeartbeat seen) = verdict.Reply (heartbeat_reply exchange)

@@ -21,7 +21,7 @@ domain_for settings role.Gateway None = None
 domain_for settings role.Gateway (Some name) = position (λ domain. bytes_eq name domain.name) settings.domains
 
 -- For which domain a peer configures its session (section 4.5): a client for its own, and a gateway for none of the settings.
-abbrev pub session_domain : Role → Option ℕ
-session_domain role.Stranger = None
-session_domain (role.Client domain) = Some domain
-session_domain role.Gateway = Some no_domain
+abbrev pub config_domain : Role → Option ℕ
+config_domain role.Stranger = None
+config_domain (role.Client domain) = Some domain
+config_domain role.Gateway = Some no_domain

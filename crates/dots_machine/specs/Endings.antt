@@ -19,7 +19,7 @@ use Rattle.slot_store.specs.Layout.{needed_of}
 use Rattle.slot_journal.specs.Sizes.{slots_of}
 use Rattle.slot_journal.specs.declared.fault.JournalFault.{JournalFault}
 use Rattle.slot_journal.specs.declared.fault.JournalFault.TheVariants as faults
-use Rattle.slot_journal.specs.DiskEntries.{Holds}
+use Rattle.slot_journal.specs.DiskEntries.{HasEntries}
 use Rattle.dots_history.specs.declared.entry.Entry.{Entry}
 use Rattle.dots_laws.specs.Fits.{is_calm}
 use Rattle.slot_journal.specs.Untaken.{RefusesLedger, IsFailure}
@@ -41,7 +41,7 @@ use Rattle.dots_machine.specs.Adding.{AddsExactly}
 use Rattle.dots_machine.specs.RepeatAnswers.{AnswersRepeats}
 use Rattle.dots_machine.specs.Isolation.{IsIsolated}
 use Rattle.dots_machine.specs.Orderly.{IsOrderly}
-use Rattle.dots_machine.specs.Surviving.{Story, told_by, Survives}
+use Rattle.dots_machine.specs.Surviving.{Story, shown_by, Survives}
 use Rattle.dots_machine.specs.Outside.{Outside, SourceFailed, WireFailed, DiskFailed, ReportFailed}
 use Rattle.dots_machine.specs.Report.{report_of, Contained}
 
@@ -109,7 +109,7 @@ pub record BreaksOff (settings : SettingsValue) (state : State) (trace : List St
   pub given : List Timed
   pub acts_are : acts ≡ (record { moment = moment; act = took came at }) ∷ given
   pub sent : AreSends (outs_of (owed_in turns)) given
-  pub trace_is : trace ≡ last.left ∷ told_by (owed_in turns)
+  pub trace_is : trace ≡ last.left ∷ shown_by (owed_in turns)
   pub end_is : end ≡ record { last = last.left; owed = each_telling last.left last.sends }
 
 -- what comes behind the whole events, by how they stop: one in which the disk failed, or nothing
@@ -179,12 +179,12 @@ pub record HasRun (settings : SettingsValue) (start : State) (how : Stop) (befor
 
 -- A run from these entries: the acts are a run of the machine from there; at a restart the disk isn't refused; each
 -- filter of the last state lies inside the domain of the request that made it; and it wrote of this state what it says.
-pub record RunsFrom (settings : SettingsValue) (held : List Entry) (how : Stop) (before now : Outside) (wrote : State → Type 0) : Type 0 where
+pub record RunsFrom (settings : SettingsValue) (stored : List Entry) (how : Stop) (before now : Outside) (wrote : State → Type 0) : Type 0 where
   pub end : Owing State
   pub settled : IsSettled how end
   pub found : IsFound how
   pub trace : List State
-  pub has_run : Added before.acts now.acts (HasRun settings (begun_from settings held) how before now trace end)
+  pub has_run : Added before.acts now.acts (HasRun settings (begun_from settings stored) how before now trace end)
   pub contained : Contained settings end.last
   pub reports : wrote end.last
 
@@ -192,10 +192,10 @@ pub record RunsFrom (settings : SettingsValue) (held : List Entry) (how : Stop) 
 -- run from them, where the disk is told, or where the acts are and none is a restart. For every host it wrote of some state what it says, and
 -- each filter of that state lies inside the domain of its request.
 pub record Serves (settings : SettingsValue) (how : Stop) (before now : Outside) (wrote : State → Type 0) : Type 0 where
-  pub held : List Entry
-  pub calm : is_calm settings held ≡ true
-  pub was_held : (seen : ℕ → ℕ) → Sees before.media seen → Holds settings seen held
-  pub runs_from : IsKnown before now → RunsFrom settings held how before now wrote
+  pub stored : List Entry
+  pub calm : is_calm settings stored ≡ true
+  pub was_stored : (seen : ℕ → ℕ) → Sees before.media seen → HasEntries settings seen stored
+  pub runs_from : IsKnown before now → RunsFrom settings stored how before now wrote
   pub any : (state : State) × Contained settings state × wrote state
 
 -- where a disk is refused for what it holds its line is written, the whole of it or, where the sink failed, a beginning; and nothing where the
@@ -213,28 +213,28 @@ IsDiskFailure _ before now = ⊤
 -- what was written of the last state: the machine's report where End came, and else nothing but why a disk isn't recovered; and what must have
 -- failed
 abbrev pub Reports : Stop → SettingsValue → Outside → Outside → State → Type 0
-Reports stop.Ended settings before now state = Appends before.held now.held (report_of settings state)
-Reports stop.NextFailed settings before now state = (now.held ≡ before.held) × WireFailed before now
-Reports stop.TooMany settings before now state = now.held ≡ before.held
-Reports stop.DiskFailed settings before now state = (now.held ≡ before.held) × DiskFailed before now
-Reports (stop.Unrecovered fault) settings before now state = WritesRefusal fault before.held now.held (ReportFailed before now) × IsDiskFailure fault before now
+Reports stop.Ended settings before now state = Appends before.written now.written (report_of settings state)
+Reports stop.NextFailed settings before now state = (now.written ≡ before.written) × WireFailed before now
+Reports stop.TooMany settings before now state = now.written ≡ before.written
+Reports stop.DiskFailed settings before now state = (now.written ≡ before.written) × DiskFailed before now
+Reports (stop.Unrecovered fault) settings before now state = WritesRefusal fault before.written now.written (ReportFailed before now) × IsDiskFailure fault before now
 
 -- The disk isn't recovered under the settings, and no event is taken: for this cause, by its size and what it held; where it held entries and
 -- nothing was pending, it holds them at each moment, and else it stays as it was, unless a call of it failed.
 pub record Unrecovers (settings : SettingsValue) (fault : JournalFault) (before now : Outside) : Type 0 where
   pub silent : KeepsActs before.acts now.acts
   pub cause : (seen : ℕ → ℕ) → Sees before.media seen → RefusesLedger settings before.extent seen now.media fault
-  pub moments : (seen : ℕ → ℕ) (entries : List Entry) → RestsWith before.media (Is seen) → Holds settings seen entries
-      → Leaves before.media now.media (λ image. Holds settings image entries)
-  pub unwritten : (seen : ℕ → ℕ) → fault ≢ faults.DiskFault → RestsWith before.media (Is seen) → RestsWith now.media (Is seen) ⊎ ((entries : List Entry) × Holds settings seen entries)
+  pub moments : (seen : ℕ → ℕ) (entries : List Entry) → RestsWith before.media (Is seen) → HasEntries settings seen entries
+      → Leaves before.media now.media (λ image. HasEntries settings image entries)
+  pub unwritten : (seen : ℕ → ℕ) → fault ≢ faults.DiskFault → RestsWith before.media (Is seen) → RestsWith now.media (Is seen) ⊎ ((entries : List Entry) × HasEntries settings seen entries)
   pub failed : IsDiskFailure fault before now
-  pub told : WritesRefusal fault before.held now.held (ReportFailed before now)
+  pub told : WritesRefusal fault before.written now.written (ReportFailed before now)
 
 -- How a run that came to its host served: the disk wasn't recovered; or the whole report is written, or a beginning of it.
 abbrev pub ServesTo : Ending → SettingsValue → Outside → Outside → Type 0
 ServesTo (ending.Served how) settings before now = Serves settings how before now (Reports how settings before now)
 ServesTo ending.ReportFailed settings before now =
-    Serves settings stop.Ended before now (λ state. AppendsBeginning before.held now.held (report_of settings state)) × ReportFailed before now
+    Serves settings stop.Ended before now (λ state. AppendsBeginning before.written now.written (report_of settings state)) × ReportFailed before now
 ServesTo (ending.Unrecovered fault) settings before now = Unrecovers settings fault before now
 ServesTo _ settings before now = ⊥
 
@@ -248,14 +248,14 @@ Prints printings.Unreadable word old new failed = (text : List ℕ) × IsPrinted
 -- settings are those of the file, where the source told its bytes.
 abbrev pub Behaves : Ending → List (List ℕ) → Outside → Outside → Type 0
 Behaves ending.WrongWords words before now =
-    (is_command words ≡ false) × (now.acts ≡ before.acts) × Writes before.held now.held (codes "words\n") (ReportFailed before now)
+    (is_command words ≡ false) × (now.acts ≡ before.acts) × Writes before.written now.written (codes "words\n") (ReportFailed before now)
 Behaves (ending.Printed how) words before now =
-    (is_show words ≡ true) × (now.acts ≡ before.acts) × Prints how (second_of words) before.held now.held (ReportFailed before now)
+    (is_show words ≡ true) × (now.acts ≡ before.acts) × Prints how (second_of words) before.written now.written (ReportFailed before now)
 Behaves (ending.Refused fault) words before now =
     (is_served words ≡ true) × (now.acts ≡ before.acts) × ¬ (IsNoLineFault fault) × IfSome before.left (λ bytes. SettingsFail bytes fault)
-    × Writes before.held now.held (fault_line fault) (ReportFailed before now)
-Behaves ending.SettingsFailed words before now = (is_served words ≡ true) × (now.acts ≡ before.acts) × (now.held ≡ before.held) × SourceFailed before now
-Behaves ending.NoMemory words before now = (is_command words ≡ true) × (now.acts ≡ before.acts) × (now.held ≡ before.held)
+    × Writes before.written now.written (fault_line fault) (ReportFailed before now)
+Behaves ending.SettingsFailed words before now = (is_served words ≡ true) × (now.acts ≡ before.acts) × (now.written ≡ before.written) × SourceFailed before now
+Behaves ending.NoMemory words before now = (is_command words ≡ true) × (now.acts ≡ before.acts) × (now.written ≡ before.written)
 Behaves served words before now =
     (is_served words ≡ true) × (settings : SettingsValue) × IfSome before.left (λ bytes. SettingsAre bytes settings) × ServesTo served settings before now
 
@@ -277,9 +277,9 @@ pub record IsReady (left : Option (List ℕ)) (media : Option Media) (extent : �
   pub gives : GivesSettings left
   pub seen : ℕ → ℕ
   pub sees : Sees media seen
-  pub held : List Entry
-  pub holds : Holds gives.settings seen held
-  pub calm : is_calm gives.settings held ≡ true
+  pub stored : List Entry
+  pub image_has : HasEntries gives.settings seen stored
+  pub calm : is_calm gives.settings stored ≡ true
   pub large : needed_of (slots_of gives.settings) ≤ extent
 
 -- the source tells its bytes, and they are at fault

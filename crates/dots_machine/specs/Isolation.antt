@@ -80,7 +80,7 @@ pub record FrontTakesUp (settings : SettingsValue) (domain conn : ℕ) (old : St
   pub line : Line
   pub there : line_of conn old.lines ≡ Some line
   pub message : HttpRequest
-  pub cut : IsCut line.held (takes message)
+  pub cut : IsCut line.buffered (takes message)
   pub asks : taken.asking ≡ by_http conn message
   pub time_is : taken.time ≡ old.time
   pub sends_are : sends ≡ taken.replies
@@ -89,7 +89,7 @@ pub record FrontTakesUp (settings : SettingsValue) (domain conn : ℕ) (old : St
 -- memory.
 pub data FrontPassesBy (settings : SettingsValue) (domain conn : ℕ) (old : State) (sends : List OwnedOut) : Type 0 where
   of_another : (caller : Caller) → caller_of settings conn old.lines ≡ Some caller → caller.domain ≢ domain → FrontPassesBy settings domain conn old sends
-  front_refused : (line : Line) (fault : HttpFault) → line_of conn old.lines ≡ Some line → IsCut line.held (refuses fault) → FrontPassesBy settings domain conn old sends
+  front_refused : (line : Line) (fault : HttpFault) → line_of conn old.lines ≡ Some line → IsCut line.buffered (refuses fault) → FrontPassesBy settings domain conn old sends
   failed : SaysFailed conn sends → FrontPassesBy settings domain conn old sends
 
 -- the turns take these requests for the domain up, in order, one each or none

@@ -137,7 +137,7 @@ abbrev pub sends_of : Option ℕ → Verdict → ℕ → List OwnedOut
 sends_of number verdict.Silent peer = []
 sends_of number (verdict.Reply reply) peer = owned.To peer reply ∷ []
 sends_of number (verdict.LongReply reply) peer = owned.To peer reply ∷ []
-sends_of number (verdict.Shows exchange body) peer = owned.To peer (showing exchange number body) ∷ []
+sends_of number (verdict.Retrieves exchange body) peer = owned.To peer (showing exchange number body) ∷ []
 sends_of number (verdict.Accept reply entry) peer = owned.To peer reply ∷ []
 
 abbrev pub after : Verdict → State → State

@@ -26,7 +26,7 @@ use Rattle.dots_machine.specs.declared.verdict.Verdict.TheVariants as verdict
 use Rattle.target_rules.specs.Targets.{scope_fault}
 use Rattle.dots_machine.specs.MessageRepeats.{Sent, sent_for, unless_repeated}
 use Rattle.dots_machine.specs.Facts.{Facts}
-use Rattle.dots_machine.specs.Replies.{granting, conflicting, deleted, shown_body, absent, bad_target, bad_request, at_capacity, unavailable}
+use Rattle.dots_machine.specs.Replies.{granting, conflicting, deleted, retrieved_body, absent, bad_target, bad_request, at_capacity, unavailable}
 
 -- the message by which its repeats are known
 abbrev pub key_of : Kind → ℕ → MessageKey
@@ -119,7 +119,7 @@ is_wanted (Some mid) m = m.put.mid == mid
 
 abbrev pub get_reply : Exchange → Content → List LiveView → Verdict
 get_reply exchange content [] = verdict.Reply (absent exchange)
-get_reply exchange content (m ∷ ms) = verdict.Shows exchange (shown_body content (m ∷ ms))
+get_reply exchange content (m ∷ ms) = verdict.Retrieves exchange (retrieved_body content (m ∷ ms))
 
 -- the name is taken; or the client's live mitigations are told, or the one of a mid
 abbrev pub get_by : Exchange → Option ℕ → Content → Bool → List LiveView → Verdict

@@ -36,7 +36,7 @@ use Rattle.dots_machine.specs.declared.verdict.Verdict.TheVariants as verdict
 use Rattle.dots_machine.specs.Domains.{is_gateway, is_stranger, domain_for}
 use Rattle.dots_machine.specs.Exchanges.{exchange_in, dismissed}
 use Rattle.dots_machine.specs.Mitigations.{is_wanted}
-use Rattle.dots_machine.specs.Replies.{shown_body}
+use Rattle.dots_machine.specs.Replies.{retrieved_body}
 
 -- ---- what is asked
 
@@ -50,7 +50,7 @@ asked_in peer exchange content path observe.Register domain = watching.Registers
   mid = path.mid;
   content = content;
 })
-asked_in peer exchange content path observe.Deregister domain = watching.Leaves exchange.token
+asked_in peer exchange content path observe.Deregister domain = watching.Cancels exchange.token
 asked_in peer exchange content path observe.No domain = watching.Nothing
 
 -- for a domain that there isn't nothing is asked
@@ -110,13 +110,13 @@ seen_at settings t history domain cuid mid = seen_among mid (views_at settings t
 -- the body of the reply to the GET that registered an observer, as it would be now
 abbrev pub bodies_at : SettingsValue → ℕ → List Entry → Bodies
 bodies_at settings t history observer =
-    shown_body observer.content (filter (is_wanted observer.mid) (views_at settings t history observer.domain observer.cuid))
+    retrieved_body observer.content (filter (is_wanted observer.mid) (views_at settings t history observer.domain observer.cuid))
 
 -- ---- what becomes of the observers by an answer
 
-abbrev pub is_shown : Verdict → Bool
-is_shown (verdict.Shows exchange body) = true
-is_shown _ = false
+abbrev pub is_retrieved : Verdict → Bool
+is_retrieved (verdict.Retrieves exchange body) = true
+is_retrieved _ = false
 
 -- the number for the Observe of the reply, where there is room for the observer
 abbrev pub number_of : SettingsValue → Watching → List ObservedValue → Option ℕ
@@ -138,8 +138,8 @@ is_unavailable _ = false
 -- notification was rejected goes.
 abbrev pub observing : SettingsValue → Lists → ℕ → Watching → Verdict → List OwnedOut → List ObservedValue → List ObservedValue
 observing settings lists peer (watching.Registers observer) decided replies observed =
-    if is_shown decided then registered lists settings.limits.observers observer observed else observed
-observing settings lists peer (watching.Leaves token) decided replies observed =
+    if is_retrieved decided then registered lists settings.limits.observers observer observed else observed
+observing settings lists peer (watching.Cancels token) decided replies observed =
     if is_unavailable replies then observed else deregistered peer token observed
 observing settings lists peer (watching.Rejects id) decided replies observed = without_id peer id observed
 observing settings lists peer watching.Nothing decided replies observed = observed

@@ -13,12 +13,12 @@ pub record Outside : Type 0 where
   pub media : Option Media
   pub extent : ℕ
   pub disk_faults : ℕ
-  pub held : Option (List ℕ)
+  pub written : Option (List ℕ)
   pub report_faults : ℕ
 
 -- what the source, the host and the report say of themselves, in this order
 abbrev pub outside : Option (List ℕ) → ℕ → Option (List Timed) → ℕ → Option Media → ℕ → ℕ → Option (List ℕ) → ℕ → Outside
-outside left source_faults acts wire_faults media extent disk_faults held report_faults = record {
+outside left source_faults acts wire_faults media extent disk_faults written report_faults = record {
   left = left;
   source_faults = source_faults;
   acts = acts;
@@ -26,7 +26,7 @@ outside left source_faults acts wire_faults media extent disk_faults held report
   media = media;
   extent = extent;
   disk_faults = disk_faults;
-  held = held;
+  written = written;
   report_faults = report_faults;
 }
 

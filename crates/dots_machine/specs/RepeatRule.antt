@@ -7,7 +7,7 @@ use Rattle.dots_settings.specs.Settings.{SettingsValue}
 use Rattle.dots_settings.specs.Lookups.{prefixes_of}
 use Rattle.dots_keys.specs.declared.request.Request.{Request}
 use Rattle.dots_keys.specs.declared.request.Request.TheVariants as request
-use Rattle.dots_machine.specs.Domains.{domain_for, session_domain}
+use Rattle.dots_machine.specs.Domains.{domain_for, config_domain}
 use Rattle.target_rules.specs.Targets.{scope_fault}
 
 -- A peer of this role asks to change what is kept of this domain, and nothing is wrong with the form of that: it is a PUT of a mitigation for
@@ -18,11 +18,11 @@ AsksToChange settings who domain (request.PutMitigation path body) =
     × (scope_fault settings (prefixes_of settings domain) body.asked ≡ None)
 AsksToChange settings who domain (request.DeleteMitigation path) =
     (domain_for settings who path.cdid ≡ Some domain) × ((mid : ℕ) × (path.mid ≡ Some mid))
-AsksToChange settings who domain (request.PutConfig sid body) = session_domain who ≡ Some domain
-AsksToChange settings who domain (request.DeleteConfig sid) = session_domain who ≡ Some domain
+AsksToChange settings who domain (request.PutConfig sid body) = config_domain who ≡ Some domain
+AsksToChange settings who domain (request.DeleteConfig sid) = config_domain who ≡ Some domain
 AsksToChange settings who domain _ = ⊥
 
 -- for how many seconds a message may be heard again (RFC 7252, section 4.8.2: EXCHANGE_LIFETIME and NON_LIFETIME)
-abbrev pub heard_for : Kind → ℕ
-heard_for Con = 247
-heard_for _ = 145
+abbrev pub remembered_for : Kind → ℕ
+remembered_for Con = 247
+remembered_for _ = 145

@@ -92,8 +92,8 @@ abbrev pub mitigation_fields : Content → LiveView → Tree
 mitigation_fields content m = map_of (field MID (unsigned m.put.mid) ++ config_fields content m ++ state_fields content m)
 
 -- the body that shows these mitigations, in their order
-abbrev pub shown_body : Content → List LiveView → List ℕ
-shown_body content ms = canon (mitigations_with (map (mitigation_fields content) ms))
+abbrev pub retrieved_body : Content → List LiveView → List ℕ
+retrieved_body content ms = canon (mitigations_with (map (mitigation_fields content) ms))
 
 -- Observe, where there is a number for it (RFC 7641, section 2)
 abbrev pub observe_with : Option ℕ → List CoapOption

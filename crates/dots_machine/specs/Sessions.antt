@@ -11,7 +11,7 @@ use Rattle.dots_laws.specs.HistoryReading.{is_mitigated}
 use Rattle.session_core.specs.declared.setting.Setting.TheVariants.{Interval, Missing, Retransmit, Timeout, Factor, Rate}
 use Rattle.session_core.specs.Ranges.{default_of}
 use Rattle.session_core.specs.Beating.{Beating}
-use Rattle.dots_machine.specs.Domains.{session_domain}
+use Rattle.dots_machine.specs.Domains.{config_domain}
 
 -- a configuration with the sid under which it was set
 abbrev pub Configured : Type 0
@@ -63,7 +63,7 @@ abbrev pub beat_of : Values → ℕ × ℕ
 beat_of values = (values.interval, values.missing)
 
 abbrev pub configured_by : SettingsValue → List Entry → ℕ → Option Configured
-configured_by settings history peer = option_and_then (λ domain. configured_in history domain peer) (session_domain (role_of settings peer))
+configured_by settings history peer = option_and_then (λ domain. configured_in history domain peer) (config_domain (role_of settings peer))
 
 abbrev pub beating_at : SettingsValue → ℕ → List Entry → Beating
 beating_at settings t history peer = beat_of (values_in_force (is_mitigated t history peer) (config_in (configured_by settings history peer)))

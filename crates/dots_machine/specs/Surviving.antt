@@ -6,52 +6,52 @@ use Rattle.dots_host.specs.Runs.{Owing, ToldStep}
 use Rattle.dots_disk.specs.Media.{Medium, Media, IsImage, all_media}
 use Rattle.dots_settings.specs.Settings.{SettingsValue}
 use Rattle.dots_history.specs.declared.entry.Entry.{Entry}
-use Rattle.slot_journal.specs.Kept.{HoldsKept}
+use Rattle.slot_journal.specs.Kept.{HasKept}
 use Rattle.dots_machine.specs.Machine.{State, Step}
 
 -- ---- a run with all that it tells
 
 -- an event that was taken tells the state after it
 abbrev pub ShowsState : WireAct → State → Owing State → Type 0
-ShowsState (took event at) told new = told ≡ new.last
-ShowsState (gave out done) told new = ⊤
+ShowsState (took event at) state new = state ≡ new.last
+ShowsState (gave out done) state new = ⊤
 
 -- The acts, one after the other, are a run of the machine, and beside each stands the state that it tells: beside an event the state after
 -- it, and beside a send the one with which it was owed.
 abbrev pub Story : SettingsValue → Owing State → List Timed → List State → Owing State → Type 0
 Story settings old [] [] new = new ≡ old
-Story settings old (timed ∷ acts) (told ∷ trace) new =
-    (between : Owing State) × ToldStep (Step settings) old timed.act told between × ShowsState timed.act told between × Story settings between acts trace new
-Story settings old [] (told ∷ trace) new = ⊥
+Story settings old (timed ∷ acts) (state ∷ trace) new =
+    (between : Owing State) × ToldStep (Step settings) old timed.act state between × ShowsState timed.act state between × Story settings between acts trace new
+Story settings old [] (state ∷ trace) new = ⊥
 Story settings old (timed ∷ acts) [] new = ⊥
 
 -- the states that sends tell
-abbrev pub told_by : List (State × OwnedOut) → List State
-told_by owed = map (λ send. send.0) owed
+abbrev pub shown_by : List (State × OwnedOut) → List State
+shown_by owed = map (λ send. send.0) owed
 
 -- ---- what was told before a moment
 
 -- a send tells the entries of its state, and an event none
 abbrev pub entries_shown : WireAct → State → ℕ → ℕ
-entries_shown (took event at) told n = n
-entries_shown (gave out done) told n = length told.history
+entries_shown (took event at) state n = n
+entries_shown (gave out done) state n = length state.history
 
 -- How many entries were told before the moment: those of the last send that was handed in before it, or so many where there is none.
 abbrev pub shown : ℕ → List Timed → List State → ℕ → ℕ
 shown m [] trace n = n
 shown m (timed ∷ acts) [] n = n
-shown m (timed ∷ acts) (told ∷ trace) n = shown m acts trace (if nat_lt timed.moment m then entries_shown timed.act told n else n)
+shown m (timed ∷ acts) (state ∷ trace) n = shown m acts trace (if nat_lt timed.moment m then entries_shown timed.act state n else n)
 
 -- an event moves the time, and a send doesn't
 abbrev pub time_shown : WireAct → State → ℕ → ℕ
-time_shown (took event at) told t = told.time
-time_shown (gave out done) told t = t
+time_shown (took event at) state t = state.time
+time_shown (gave out done) state t = t
 
 -- The time of the machine at the moment: that after the last event that was taken before it, or this one where there is none.
 abbrev pub time_at : ℕ → List Timed → List State → ℕ → ℕ
 time_at m [] trace t = t
 time_at m (timed ∷ acts) [] t = t
-time_at m (timed ∷ acts) (told ∷ trace) t = time_at m acts trace (if nat_lt timed.moment m then time_shown timed.act told t else t)
+time_at m (timed ∷ acts) (state ∷ trace) t = time_at m acts trace (if nat_lt timed.moment m then time_shown timed.act state t else t)
 
 -- how many calls were made of a host, where its disk is told
 abbrev pub past_of : Option Media → ℕ
@@ -71,7 +71,7 @@ pub record MeansAt (settings : SettingsValue) (start : State) (acts : List Timed
   pub count : ℕ
   pub within : count ≤ length history
   pub has_shown : shown m acts trace (length start.history) ≤ count
-  pub holds : HoldsKept settings settings.limits.remembered (time_at m acts trace start.time) (take count history) image
+  pub image_has : HasKept settings settings.limits.remembered (time_at m acts trace start.time) (take count history) image
 
 -- the disk at each moment, from this one on, has the property in each image that a crash may leave of it
 abbrev pub EachFrom : ℕ → List Medium → (ℕ → (ℕ → ℕ) → Type 0) → Type 0

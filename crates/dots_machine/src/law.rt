@@ -17,7 +17,7 @@ ghost use Rattle.dots_settings.specs.Lookups.{role_of};
 ghost use Rattle.dots_disk.specs.Media.{Media};
 ghost use Rattle.slot_store.specs.Gates.{Sees};
 ghost use Rattle.slot_store.specs.Layout.{needed_of};
-ghost use Rattle.slot_journal.specs.DiskEntries.{Holds};
+ghost use Rattle.slot_journal.specs.DiskEntries.{HasEntries};
 ghost use Rattle.slot_journal.specs.Sizes.{slots_of};
 ghost use Rattle.dots_history.specs.Histories.{Kept, tally};
 ghost use Rattle.dots_notices.specs.Notifying.{Apart};
@@ -28,7 +28,7 @@ ghost use Rattle.dots_machine.specs.Answering.{AreBytes, IsHandedIn, IsUnavailab
 ghost use Rattle.dots_machine.specs.Domains.{is_gateway, is_stranger};
 ghost use Rattle.dots_machine.specs.Requests.{IsReceived};
 ghost use Rattle.dots_machine.specs.MessageRepeats.{sent_for, IsRepeatOf};
-ghost use Rattle.dots_machine.specs.RepeatRule.{heard_for, AsksToChange};
+ghost use Rattle.dots_machine.specs.RepeatRule.{remembered_for, AsksToChange};
 ghost use Rattle.dots_machine.specs.Machine.{State, afresh, later, DecidesRequest, Step};
 ghost use Rattle.dots_machine.specs.Handlings.{Handling, IsHandling, EachHandling, handlings_of};
 ghost use Rattle.dots_machine.specs.Adding.{AddsExactly};
@@ -82,7 +82,7 @@ pub fn repeats_are_answered()
     ensures accepted { (settings : SettingsValue) (state : State) (peer : ℕ) (exchange : Exchange) (asked : Request) (reply : List ℕ) (entry : Entry)
         → DecidesRequest settings state peer exchange asked (verdict.Accept reply entry)
         → (domain : ℕ) × (domain_of settings (role_of settings peer) asked ≡ Some domain) × (entry.reply ≡ reply)
-        × ((t : ℕ) (since : List Entry) → t ≤ state.time + heard_for exchange.kind → tally (signals peer domain) since < settings.limits.remembered
+        × ((t : ℕ) (since : List Entry) → t ≤ state.time + remembered_for exchange.kind → tally (signals peer domain) since < settings.limits.remembered
         → list_any (λ (e : Entry). signals peer domain e && may_repeat t exchange.id e.time e.key) since ≡ false
         → IsRepeatOf settings.limits.remembered t (state.history ++ entry ∷ since) (sent_for peer exchange domain) entry) }
     ensures rules { (settings : SettingsValue) (state : State) (peer : ℕ) (exchange : Exchange) (asked : Request) (domain : ℕ) (entry : Entry) (decided : Verdict)
@@ -127,13 +127,13 @@ pub fn mitigations_stand_apart()
 {}
 
 /// Runs go on from one another over a crash. Where an image represents what a run had accepted and told at a moment, and a read of the disk of another run
-/// gives this image, then what that run recovered (the entries that its disk held, as `was_held` of `Serves` says) means a front of what the first one
+/// gives this image, then what that run recovered (the entries that its disk held, as `was_stored` of `Serves` says) means a front of what the first one
 /// accepted, with all that was told before the moment (`found`). And the disk is ready for it, if it is large enough (`ready`), so it isn't refused.
 pub fn runs_go_on()
-    ensures found { (settings : SettingsValue) (start : State) (acts : List Timed) (trace : List State) (history : List Entry) (m : ℕ) (image : ℕ → ℕ) (media : Option Media) (held : List Entry)
-        → MeansAt settings start acts trace history m image → Sees media image → ((seen : ℕ → ℕ) → Sees media seen → Holds settings seen held)
+    ensures found { (settings : SettingsValue) (start : State) (acts : List Timed) (trace : List State) (history : List Entry) (m : ℕ) (image : ℕ → ℕ) (media : Option Media) (stored : List Entry)
+        → MeansAt settings start acts trace history m image → Sees media image → ((seen : ℕ → ℕ) → Sees media seen → HasEntries settings seen stored)
         → (count : ℕ) × (count ≤ length history) × (shown m acts trace (length start.history) ≤ count)
-        × Kept settings.limits.remembered (time_at m acts trace start.time) held (take count history) }
+        × Kept settings.limits.remembered (time_at m acts trace start.time) stored (take count history) }
     ensures ready { (start : State) (acts : List Timed) (trace : List State) (history : List Entry) (m : ℕ) (image : ℕ → ℕ) (left : Option (List ℕ)) (media : Option Media) (extent : ℕ)
         → (gives : GivesSettings left) → MeansAt gives.settings start acts trace history m image → Sees media image → needed_of (slots_of gives.settings) ≤ extent
         → IsReady left media extent }

@@ -12,7 +12,7 @@ pub enum Verdict<E> {
     /// The same, with a body of any length.
     LongReply(Bytes),
     /// Mitigations are shown by this body, in a reply to the exchange that may have Observe with a number (RFC 7641, section 2).
-    Shows { exchange: Exchange, body: Bytes },
+    Retrieves { exchange: Exchange, body: Bytes },
     /// An accepted change, and the reply that it carries.
     Accept { reply: ShortMessage, entry: E },
 }

@@ -9,7 +9,7 @@ pub enum Watching {
     /// Who sent it is to be registered as this observer, where it is shown what it asks for.
     Registers(Observer),
     /// The observer of this token is to go.
-    Leaves(Token),
+    Cancels(Token),
     /// The observer is to go whose last notification had this Message ID.
     Rejects(u16),
 }

@@ -13,7 +13,7 @@ ghost use Rattle.dots_notices.specs.Notifying.{Notifies, SentTo, IsMade, OneNoti
 
 use crate::notices::{content_notice, gone_notice};
 use crate::sending::send_to;
-use crate::shows::Shows;
+use crate::view_bodies::ViewBodies;
 use crate::watch::Watch;
 use coap_observe::{DueAmong, Notice};
 use dots_disk::Host;
@@ -35,13 +35,13 @@ struct Due {
 /// Notifies each observer that is due of what there is to see now, in the order of registration (RFC 7641, section 4.2; RFC 9132, section
 /// 4.4.2.1). Those alone are looked at among whom one may be due. One whose notification can't be made is passed over, and stays due.
 /// Whether a notification left makes no difference.
-pub fn notify<H: Host, S: Shows>(host: &mut H, alloc: Global, watch: &mut Watch, shows: &S)
+pub fn notify<H: Host, S: ViewBodies>(host: &mut H, alloc: Global, watch: &mut Watch, view_bodies: &S)
     ensures notified { (sends : List OwnedOut)
-        × Notifies (S.Views.lists shows.now) (S.bodies shows.now) watch.old.observers.observed watch.old.sessions sends watch.new.observers.observed watch.new.sessions
+        × Notifies (S.Views.lists view_bodies.now) (S.bodies view_bodies.now) watch.old.observers.observed watch.old.sessions sends watch.new.observers.observed watch.new.sessions
         × Added (H.acts host.old) (H.acts host.new) (SentTo (H.moment host.old) (H.moment host.new) sends) }
     // Where all others were notified before, nobody is due any more, or one is that was passed over.
-    ensures due { AreNotified (S.Views.lists shows.now) watch.old.due watch.old.observers.observed
-        → IsKnown (S.Views.lists shows.now) watch.new.due watch.new.observers.observed }
+    ensures due { AreNotified (S.Views.lists view_bodies.now) watch.old.due watch.old.observers.observed
+        → IsKnown (S.Views.lists view_bodies.now) watch.new.due watch.new.observers.observed }
     ensures room { watch.new.observers.room ≡ watch.old.observers.room }
     ensures pairs { watch.new.observers.pairs ≡ watch.old.observers.pairs }
     ensures media { KeepsMedia (H.media host.old) (H.media host.new) }
@@ -52,9 +52,9 @@ pub fn notify<H: Host, S: Shows>(host: &mut H, alloc: Global, watch: &mut Watch,
 {
     let mut from = 0;
     let mut passed_over = false;
-    while let Some(due) = next_notice(alloc, watch, shows, from) {
+    while let Some(due) = next_notice(alloc, watch, view_bodies, from) {
         passed_over |= due.bytes.is_none();
-        from = notify_one(host, watch, shows, due);
+        from = notify_one(host, watch, view_bodies, due);
     }
     watch.due = due_behind(passed_over);
 }
@@ -70,18 +70,18 @@ fn due_behind(passed_over: bool) -> DueAmong
 }
 
 /// The first notification, from the place on, that is due.
-fn next_notice<S: Shows>(alloc: Global, watch: &Watch, shows: &S, from: usize) -> Option<Due>
-    ensures next { MatchOption result (NoneIsDue (S.Views.lists shows.now) watch.now.due from (length watch.now.observers.observed) watch.now.observers.observed)
+fn next_notice<S: ViewBodies>(alloc: Global, watch: &Watch, view_bodies: &S, from: usize) -> Option<Due>
+    ensures next { MatchOption result (NoneIsDue (S.Views.lists view_bodies.now) watch.now.due from (length watch.now.observers.observed) watch.now.observers.observed)
         (λ due. (one : ObservedValue) × (slice_get watch.now.observers.observed due.place ≡ Some one)
-        × (due.place < length watch.now.observers.observed) × (from ≤ due.place) × (is_due (S.Views.lists shows.now) one ≡ true)
-        × IsMade (S.Views.lists shows.now) (S.bodies shows.now) watch.now.sessions one due.peer due.gone due.bytes
-        × NoneIsDue (S.Views.lists shows.now) watch.now.due from due.place watch.now.observers.observed) }
+        × (due.place < length watch.now.observers.observed) × (from ≤ due.place) × (is_due (S.Views.lists view_bodies.now) one ≡ true)
+        × IsMade (S.Views.lists view_bodies.now) (S.bodies view_bodies.now) watch.now.sessions one due.peer due.gone due.bytes
+        × NoneIsDue (S.Views.lists view_bodies.now) watch.now.due from due.place watch.now.observers.observed) }
     ensures few { IfSome result (λ due. due.place + 1 < 2 ^ 64) }
 {
-    let notice = watch.observers.next_due(shows, watch.due, from)?;
+    let notice = watch.observers.next_due(view_bodies, watch.due, from)?;
     let peer = notice.observer.peer;
     let bytes = match watch.sessions.next_number(peer) {
-        Some(id) => bytes_of(alloc, shows, &notice, id).ok(),
+        Some(id) => bytes_of(alloc, view_bodies, &notice, id).ok(),
         None => None,
     };
     Some(Due {
@@ -93,19 +93,19 @@ fn next_notice<S: Shows>(alloc: Global, watch: &Watch, shows: &S, from: usize) -
 }
 
 /// The bytes of a notification with this Message ID.
-fn bytes_of<S: Shows>(
+fn bytes_of<S: ViewBodies>(
     alloc: Global,
-    shows: &S,
+    view_bodies: &S,
     notice: &Notice<'_>,
     id: u16,
 ) -> Result<Bytes, NoMemory>
     ensures { IfOk result (λ bytes. bytes ≡ (if notice.now.gone then gone_notice id notice.now.observer.now.token
-        else content_notice id notice.now.observer.now.token notice.now.number (S.bodies shows.now notice.now.observer.now))) }
+        else content_notice id notice.now.observer.now.token notice.now.number (S.bodies view_bodies.now notice.now.observer.now))) }
 {
     if notice.gone {
         return gone_notice(alloc, id, &notice.observer.token);
     }
-    let body = shows.body(alloc, notice.observer)?;
+    let body = view_bodies.body(alloc, notice.observer)?;
     content_notice(
         alloc,
         id,
@@ -117,13 +117,13 @@ fn bytes_of<S: Shows>(
 
 /// Notifies the observer at the place exactly where its notification could be made, and answers from which place on the next one is looked
 /// for.
-fn notify_one<H: Host, S: Shows>(host: &mut H, watch: &mut Watch, shows: &S, due: Due) -> usize
+fn notify_one<H: Host, S: ViewBodies>(host: &mut H, watch: &mut Watch, view_bodies: &S, due: Due) -> usize
     requires within { due.place < length watch.old.observers.observed }
     requires few { due.place + 1 < 2 ^ 64 }
     requires made { (one : ObservedValue) → slice_get watch.old.observers.observed due.place ≡ Some one
-        → IsMade (S.Views.lists shows.now) (S.bodies shows.now) watch.old.sessions one due.peer due.gone due.bytes }
+        → IsMade (S.Views.lists view_bodies.now) (S.bodies view_bodies.now) watch.old.sessions one due.peer due.gone due.bytes }
     ensures notified { (one : ObservedValue) → slice_get watch.old.observers.observed due.place ≡ Some one → (sends : List OwnedOut)
-        × OneNotified (S.Views.lists shows.now) (S.bodies shows.now) watch.old.observers.observed watch.old.sessions due.place one due.bytes sends
+        × OneNotified (S.Views.lists view_bodies.now) (S.bodies view_bodies.now) watch.old.observers.observed watch.old.sessions due.place one due.bytes sends
         watch.new.observers.observed watch.new.sessions result
         × Added (H.acts host.old) (H.acts host.new) (SentTo (H.moment host.old) (H.moment host.new) sends) }
     ensures due { watch.new.due ≡ watch.old.due }
@@ -145,7 +145,7 @@ fn notify_one<H: Host, S: Shows>(host: &mut H, watch: &mut Watch, shows: &S, due
         Some(bytes) => {
             let id = watch.sessions.number(peer);
             send_to(host, peer, bytes.items());
-            watch.observers.notified(shows, place, id);
+            watch.observers.notified(view_bodies, place, id);
             if gone {
                 return place;
             }

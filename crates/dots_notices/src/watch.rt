@@ -57,7 +57,7 @@ impl Watch {
     }
 
     /// The observer of this peer and token goes, where there is one.
-    pub fn leave(&mut self, peer: u32, token: &[u8])
+    pub fn cancel(&mut self, peer: u32, token: &[u8])
         ensures { self.new ≡ record self.old { observers = record self.old.observers { observed = deregistered peer token.now self.old.observers.observed } } }
     {
         self.observers.deregister(peer, token);

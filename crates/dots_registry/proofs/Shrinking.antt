@@ -141,7 +141,7 @@ moved_of keep settings registry is_of = record {
 pub moved_represents : (keep : List ℕ) (registry : RegistryValue) (entries : List Entry) → Represents registry entries → Represents (renumbered keep registry) entries
 moved_represents keep registry entries represents = record {
   live = renumbered_represents keep registry.live entries represents.live;
-  held = same_represents (tables_renumbered keep registry.held) registry.held entries (record { sizes = refl; clients = refl; sessions = refl; signals = refl }) represents.held;
+  held = same_represents (tables_renumbered keep registry.held) registry.held entries (record { sizes = refl; clients = refl; configurations = refl; signals = refl }) represents.held;
   remembered = moved_remembers (number_remembered registry) keep registry.rings entries represents.remembered;
   signalled = still_signalled registry.rings (map (ring_renumbered keep) registry.rings) entries (pairs_moved keep registry.rings) represents.signalled;
   filters = represents.filters;

@@ -3,7 +3,7 @@
 ghost use Rattle.std.specs.Prelude.{◌≡◌, ◌≤◌, true, length, [], IfOk, OnOk};
 ghost use Rattle.dots_lists.specs.Name.{is_name};
 ghost use Rattle.dots_machine.specs.Mitigations.{key_of, entry_of};
-ghost use Rattle.dots_machine.specs.Deciding.{session_entry};
+ghost use Rattle.dots_machine.specs.Deciding.{config_entry};
 
 use coap_message::Kind;
 use dots_history::{Change, Entry, MessageKey};
@@ -29,7 +29,7 @@ pub fn entry_of(time: u64, from: &ClientRequest, copies: (Text, Bytes), change: 
 }
 
 /// What is kept of a change of the configuration of a peer's session, which is of no client, at this time, in seconds.
-pub fn session_entry(
+pub fn config_entry(
     alloc: Global,
     time: u64,
     peer: u32,
@@ -38,7 +38,7 @@ pub fn session_entry(
     reply: &ShortMessage,
     change: Change,
 ) -> Result<Entry, NoMemory>
-    ensures entry { IfOk result (λ entry. entry ≡ session_entry time peer domain exchange.now reply.now change) }
+    ensures entry { IfOk result (λ entry. entry ≡ config_entry time peer domain exchange.now reply.now change) }
     ensures reply { OnOk result (length reply.now ≤ 64) }
 {
     let reply = Bytes::from_slice(alloc, reply.bytes())?;

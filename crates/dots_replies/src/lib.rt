@@ -10,8 +10,8 @@ mod receiving;
 mod replies;
 
 pub use configurations::config_in;
-pub use entries::{copies, entry_of, session_entry};
-pub use long_replies::{configuration_reply, conflicting, showing, shown_body};
+pub use entries::{copies, entry_of, config_entry};
+pub use long_replies::{configuration_reply, conflicting, showing, retrieved_body};
 pub use receiving::receive;
 pub use replies::{
     absent, at_capacity, bad_parameter, bad_request, bad_target, configuring, deleted, granting,

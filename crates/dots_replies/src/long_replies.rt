@@ -30,7 +30,7 @@ pub fn conflicting(
 }
 
 /// The body that shows these mitigations (RFC 9132, section 4.4.2).
-pub fn shown_body(alloc: Global, views: ViewList<'_>) -> Result<Bytes, NoMemory>
+pub fn retrieved_body(alloc: Global, views: ViewList<'_>) -> Result<Bytes, NoMemory>
     ensures { IfOk result (λ body. body ≡ canon (views_tree views.entry)) }
 {
     body_of(alloc, &Reply::Mitigations(views))

@@ -191,10 +191,10 @@ status_at_fault end (inl is) = inl (subst (λ end. outcome_status end ≡ 3) (sy
 status_at_fault end (inr is) = inr (subst (λ end. outcome_status end ≡ 4) (sym is) refl)
 
 -- no read of the file failed, where the status says neither that nor want of memory
-pub status_heard : (end : TopicOutcome) (P : Type 0) → (end ≡ outcomes.NoMemory) ⊎ ((end ≡ outcomes.Unread) ⊎ P) → outcome_status end ≢ 4 → outcome_status end ≢ 5 → P
-status_heard end P (inl is) four five = absurd (four (subst (λ end. outcome_status end ≡ 4) (sym is) refl))
-status_heard end P (inr (inl is)) four five = absurd (five (subst (λ end. outcome_status end ≡ 5) (sym is) refl))
-status_heard end P (inr (inr same)) four five = same
+pub status_source_read : (end : TopicOutcome) (P : Type 0) → (end ≡ outcomes.NoMemory) ⊎ ((end ≡ outcomes.Unread) ⊎ P) → outcome_status end ≢ 4 → outcome_status end ≢ 5 → P
+status_source_read end P (inl is) four five = absurd (four (subst (λ end. outcome_status end ≡ 4) (sym is) refl))
+status_source_read end P (inr (inl is)) four five = absurd (five (subst (λ end. outcome_status end ≡ 5) (sym is) refl))
+status_source_read end P (inr (inr same)) four five = same
 
 pub one_topic : (words : List (List ℕ)) (asked other : Topic) → topic_of words ≡ Some asked → topic_of words ≡ Some other → asked ≡ other
 one_topic words asked other a b = cc (sym a ∙ b)

@@ -10,12 +10,12 @@ use Rattle.dots_settings.proofs.Sound.{given_settings}
 use Rattle.slot_store.specs.Layout.{needed_of}
 use Rattle.dots_settings.specs.Sizes.{most_of_domain}
 use Rattle.slot_journal.specs.Sizes.{is_client_role, actors_of, slots_of}
-use Rattle.slot_journal.specs.DiskEntries.{Holds}
+use Rattle.slot_journal.specs.DiskEntries.{HasEntries}
 use Rattle.dots_machine.specs.Endings.{GivesSettings, IsReady}
 
 -- it holds no entry
-pub zeros_hold_nothing : (settings : SettingsValue) → Holds settings (byte_of []) []
-zeros_hold_nothing settings = record { records = inl (record { gate = λ is. cc is; gates = λ half slot low under. refl; none = refl }); each = tt }
+pub zeros_have_nothing : (settings : SettingsValue) → HasEntries settings (byte_of []) []
+zeros_have_nothing settings = record { records = inl (record { gate = λ is. cc is; gates = λ half slot low under. refl; none = refl }); each = tt }
 
 of_domain : (limits : Limits) → AreLimits limits → most_of_domain limits ≤ 328
 of_domain limits are =
@@ -44,8 +44,8 @@ ready_blank left gives = record {
   gives = gives;
   seen = byte_of [];
   sees = refl;
-  held = [];
-  holds = zeros_hold_nothing gives.settings;
+  written = [];
+  image_has = zeros_have_nothing gives.settings;
   calm = refl;
   large = needs_little gives.settings (given_settings gives.bytes gives.settings gives.are);
 }

@@ -17,7 +17,7 @@ use Rattle.slot_store.specs.Layout.{needed_of}
 use Rattle.slot_journal.specs.declared.fault.JournalFault.{JournalFault}
 use Rattle.slot_journal.specs.declared.fault.JournalFault.TheVariants as faults
 use Rattle.slot_journal.specs.Sizes.{slots_of}
-use Rattle.slot_journal.specs.DiskEntries.{Holds}
+use Rattle.slot_journal.specs.DiskEntries.{HasEntries}
 use Rattle.slot_journal.specs.Untaken.{IsFailure}
 use Rattle.dots_ledger.proofs.Recovering.{fails_alone}
 use Rattle.dots_machine.specs.declared.ending.Ending.{Ending}
@@ -85,13 +85,13 @@ no_nine (faults.SettingsChanged stored given) is = omega (arith, is)
 no_nine (faults.TooSmall needed found) is = omega (arith, is)
 
 -- memory ran out, the settings couldn't be read, or no read of them failed
-abbrev pub HeardAll : ℕ → ℕ → Ending → Type 0
-HeardAll before now how = (how ≡ ending.NoMemory) ⊎ (how ≡ ending.SettingsFailed) ⊎ (now ≡ before)
+abbrev pub SourceReadAll : ℕ → ℕ → Ending → Type 0
+SourceReadAll before now how = (how ≡ ending.NoMemory) ⊎ (how ≡ ending.SettingsFailed) ⊎ (now ≡ before)
 
-pub has_heard : (before now : ℕ) (how : Ending) → status_of how ≢ 4 → status_of how ≢ 5 → HeardAll before now how → now ≡ before
-has_heard before now how four five (inl is) = absurd (four (subst (λ how. status_of how ≡ 4) (sym is) refl))
-has_heard before now how four five (inr (inl is)) = absurd (five (subst (λ how. status_of how ≡ 5) (sym is) refl))
-has_heard before now how four five (inr (inr same)) = same
+pub has_source_read : (before now : ℕ) (how : Ending) → status_of how ≢ 4 → status_of how ≢ 5 → SourceReadAll before now how → now ≡ before
+has_source_read before now how four five (inl is) = absurd (four (subst (λ how. status_of how ≡ 4) (sym is) refl))
+has_source_read before now how four five (inr (inl is)) = absurd (five (subst (λ how. status_of how ≡ 5) (sym is) refl))
+has_source_read before now how four five (inr (inr same)) = same
 
 module _ (words : List (List ℕ)) (before now : Outside) where
   never_served : (settings : SettingsValue) → GivesFault before.left → IfSome before.left (λ bytes. SettingsAre bytes settings) → ⊥
@@ -104,27 +104,27 @@ module _ (words : List (List ℕ)) (before now : Outside) where
       let fails : SettingsFail given.bytes fault = subst (λ left. IfSome left (λ bytes. SettingsFail bytes fault)) given.told told in
       no_settings_at_fault given.bytes given.settings fault given.are fails
 
-  abbrev Heard : Ending → Type 0
-  Heard how = HeardAll before.source_faults now.source_faults how
+  abbrev SourceRead : Ending → Type 0
+  SourceRead how = SourceReadAll before.source_faults now.source_faults how
 
-  refused_heard : (fault : SettingsFault) → Heard (ending.Refused fault) → now.source_faults ≡ before.source_faults
-  refused_heard fault (inl is) = absurd (cc is)
-  refused_heard fault (inr (inl is)) = absurd (cc is)
-  refused_heard fault (inr (inr same)) = same
+  refused_source_read : (fault : SettingsFault) → SourceRead (ending.Refused fault) → now.source_faults ≡ before.source_faults
+  refused_source_read fault (inl is) = absurd (cc is)
+  refused_source_read fault (inr (inl is)) = absurd (cc is)
+  refused_source_read fault (inr (inr same)) = same
 
   abbrev EndsRefused : Ending → Type 0
   EndsRefused how =
       ((status_of how ≡ 3) × (now.source_faults ≡ before.source_faults)) ⊎ (status_of how ≡ 4) ⊎ ((status_of how ≡ 5) × Rose before.source_faults now.source_faults)
 
-  pub ends_refused : (how : Ending) → is_served words ≡ true → GivesFault before.left → Heard how → Behaves how words before now → EndsRefused how
-  ends_refused ending.WrongWords served given heard behaves = absurd (served_is_command words served behaves.0)
-  ends_refused (ending.Printed how) served given heard behaves = absurd (one_command words served behaves.0)
-  ends_refused (ending.Refused fault) served given heard behaves = inl (refl, refused_heard fault heard)
-  ends_refused ending.NoMemory served given heard behaves = inr (inl refl)
-  ends_refused ending.SettingsFailed served given heard behaves = inr (inr (refl, behaves.3))
-  ends_refused (ending.Unrecovered fault) served given heard behaves = absurd (never_served behaves.1 given behaves.2)
-  ends_refused (ending.Served how) served given heard behaves = absurd (never_served behaves.1 given behaves.2)
-  ends_refused ending.ReportFailed served given heard behaves = absurd (never_served behaves.1 given behaves.2)
+  pub ends_refused : (how : Ending) → is_served words ≡ true → GivesFault before.left → SourceRead how → Behaves how words before now → EndsRefused how
+  ends_refused ending.WrongWords served given source_read behaves = absurd (served_is_command words served behaves.0)
+  ends_refused (ending.Printed how) served given source_read behaves = absurd (one_command words served behaves.0)
+  ends_refused (ending.Refused fault) served given source_read behaves = inl (refl, refused_source_read fault source_read)
+  ends_refused ending.NoMemory served given source_read behaves = inr (inl refl)
+  ends_refused ending.SettingsFailed served given source_read behaves = inr (inr (refl, behaves.3))
+  ends_refused (ending.Unrecovered fault) served given source_read behaves = absurd (never_served behaves.1 given behaves.2)
+  ends_refused (ending.Served how) served given source_read behaves = absurd (never_served behaves.1 given behaves.2)
+  ends_refused ending.ReportFailed served given source_read behaves = absurd (never_served behaves.1 given behaves.2)
 
   abbrev EndsWell : ℕ → Type 0
   EndsWell status = (status ≡ 0) ⊎ (status ≡ 4) ⊎ (status ≡ 11)
@@ -138,8 +138,8 @@ module _ (words : List (List ℕ)) (before now : Outside) where
     no_refusal : (settings : SettingsValue) → IfSome before.left (λ bytes. SettingsAre bytes settings) → (fault : JournalFault) → Unrecovers settings fault before now → IsFailure fault
     no_refusal settings told fault un =
         let same = same_settings settings told in
-        fails_alone settings before.extent ready.seen now.media ready.held fault (un.cause ready.seen ready.sees) (subst (λ s. Holds s ready.seen ready.held) same ready.holds)
-        (subst (λ s. is_calm s ready.held ≡ true) same ready.calm) (subst (λ s. needed_of (slots_of s) ≤ before.extent) same ready.large)
+        fails_alone settings before.extent ready.seen now.media ready.stored fault (un.cause ready.seen ready.sees) (subst (λ s. HasEntries s ready.seen ready.stored) same ready.image_has)
+        (subst (λ s. is_calm s ready.stored ≡ true) same ready.calm) (subst (λ s. needed_of (slots_of s) ≤ before.extent) same ready.large)
 
     wants_memory : (fault : JournalFault) → IsFailure fault → IsDiskFailure fault before now → EndsWell (recovery_status fault)
     wants_memory faults.NoMemory is failed = inr (inl refl)

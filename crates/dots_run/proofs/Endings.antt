@@ -22,10 +22,10 @@ checks check left failed (Err unchecked.ReadFailed) is cause = cause refl
 checks check left failed (Err unchecked.NoMemory) is cause = tt
 
 -- memory ran out, the file couldn't be read, or no read of it failed
-pub heard : (found : Result Checked Unchecked) (end : TopicOutcome) (old new : Option (List ℕ)) (failed P : Type 0) → OnOk found P → Reports found end old new failed → (end ≡ outcomes.NoMemory) ⊎ ((end ≡ outcomes.Unread) ⊎ P)
-heard (Ok found) end old new failed P same reports = inr (inr same)
-heard (Err unchecked.ReadFailed) end old new failed P same reports = inr (inl reports.0)
-heard (Err unchecked.NoMemory) end old new failed P same reports = inl reports.0
+pub source_read : (found : Result Checked Unchecked) (end : TopicOutcome) (old new : Option (List ℕ)) (failed P : Type 0) → OnOk found P → Reports found end old new failed → (end ≡ outcomes.NoMemory) ⊎ ((end ≡ outcomes.Unread) ⊎ P)
+source_read (Ok found) end old new failed P same reports = inr (inr same)
+source_read (Err unchecked.ReadFailed) end old new failed P same reports = inr (inl reports.0)
+source_read (Err unchecked.NoMemory) end old new failed P same reports = inl reports.0
 
 ok_once : (x y : Checked) (found : Result Checked Unchecked) → found ≡ Ok x → found ≡ Ok y → x ≡ y
 ok_once x y found a b = cc (sym a ∙ b)

@@ -15,7 +15,7 @@ use Rattle.dots_disk.specs.Stored.{Stored, media_of}
 use Rattle.dots_settings.specs.Settings.{SettingsValue}
 use Rattle.dots_settings.specs.File.{SettingsAre}
 use Rattle.dots_history.specs.declared.entry.Entry.{Entry}
-use Rattle.slot_journal.specs.DiskEntries.{Holds}
+use Rattle.slot_journal.specs.DiskEntries.{HasEntries}
 use Rattle.slot_journal.proofs.Crashing.{one_history}
 use Rattle.dots_machine.specs.Machine.{State, begun_from}
 use Rattle.dots_machine.specs.Surviving.{Story}
@@ -23,16 +23,16 @@ use Rattle.dots_load.specs.Domains.{settings_text}
 use Rattle.dots_load.specs.Events.{load_events}
 use Rattle.dots_load.specs.Report.{sends_in, unavailable, load_text}
 use Rattle.dots_load.proofs.Coming.{all_come}
-use Rattle.dots_run.specs.Load.{rows_of, LoadTold, RunsToEnd}
-use Rattle.dots_run.proofs.Blank.{zeros_hold_nothing}
+use Rattle.dots_run.specs.Load.{rows_of, LoadReported, RunsToEnd}
+use Rattle.dots_run.proofs.Blank.{zeros_have_nothing}
 
 -- an empty disk sees zeros
 pub sees_zeros : (disk : Stored) → disk.base ≡ [] → disk.acts ≡ [] → (media_of disk).now.seen ≡ byte_of []
 sees_zeros disk base acts = ap (λ (calls : List Act). (grown (blank disk.base) calls).now.seen) acts ∙ ap (λ (bytes : List ℕ). byte_of bytes) base
 
 -- so it holds no entry
-held_nothing : (settings : SettingsValue) (held : List Entry) → Holds settings (byte_of []) held → held ≡ []
-held_nothing settings held holds = one_history settings (byte_of []) held [] holds (zeros_hold_nothing settings)
+stored_nothing : (settings : SettingsValue) (stored : List Entry) → HasEntries settings (byte_of []) stored → stored ≡ []
+stored_nothing settings stored holds = one_history settings (byte_of []) stored [] holds (zeros_have_nothing settings)
 
 told_all : (between : Option (List Timed)) (acts : List Timed) (P : List Timed → Type 0) → KeepsActs (Some []) between → Added between (Some acts) P → P acts
 told_all None acts P keeps added = absurd added
@@ -51,14 +51,14 @@ at_rest : (end : Owing State) → end.owed ≡ [] → end ≡ resting end.last
 at_rest end none = ap (λ (owed : List (State × OwnedOut)). record { last = end.last; owed = owed }) none
 
 -- a run from what an empty disk held
-pub runs_to_end : (settings : SettingsValue) → SettingsAre settings_text settings → (held : List Entry) → Holds settings (byte_of []) held → (from : State) → from ≡ begun_from settings held
+pub runs_to_end : (settings : SettingsValue) → SettingsAre settings_text settings → (stored : List Entry) → HasEntries settings (byte_of []) stored → (from : State) → from ≡ begun_from settings stored
     → (acts : List Timed) (trace : List State) (end : Owing State) (rows : ℕ) → end.owed ≡ [] → Story settings (resting from) acts trace end → EndsBy event.End acts → rows ≡ rows_of end.last → RunsToEnd acts rows
-runs_to_end settings are held holds from begun acts trace end rows none run ends counted = record {
+runs_to_end settings are stored holds from begun acts trace end rows none run ends counted = record {
   settings = settings;
   are = are;
   trace = trace;
   end = end.last;
-  run = subst (λ (state : State). Story settings (resting state) acts trace (resting end.last)) (begun ∙ ap (λ (entries : List Entry). begun_from settings entries) (held_nothing settings held holds))
+  run = subst (λ (state : State). Story settings (resting state) acts trace (resting end.last)) (begun ∙ ap (λ (entries : List Entry). begun_from settings entries) (stored_nothing settings stored holds))
       (subst (λ (to : Owing State). Story settings (resting from) acts trace to) (at_rest end none) run);
   ends = ends;
   rows_are = counted;
@@ -69,7 +69,7 @@ none_counted n is = grind (arith, nat_tests)
 
 -- a run over a host to which the events of a seed came, of which each call was recorded
 pub load_told : (seed : ℕ) (old new : Hosted) (rows : ℕ) (text : List ℕ) → old.coming ≡ load_events seed → old.disk.acts ≡ [] → HandsOut old new → new.disk.whole ≡ true
-    → RunsToEnd (wire_acts 0 new.disk.acts) rows → (count_by unavailable (sends_in (wire_acts 0 new.disk.acts)) == 0) ≡ true → text ≡ load_text (wire_acts 0 new.disk.acts) rows → LoadTold seed text
+    → RunsToEnd (wire_acts 0 new.disk.acts) rows → (count_by unavailable (sends_in (wire_acts 0 new.disk.acts)) == 0) ≡ true → text ≡ load_text (wire_acts 0 new.disk.acts) rows → LoadReported seed text
 load_told seed old new rows text coming none hands whole runs served is = record {
   settings = runs.settings;
   are = runs.are;

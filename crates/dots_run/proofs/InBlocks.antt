@@ -54,7 +54,7 @@ pub lacks_outcome : (words : List (List ℕ)) (before : Outside) → is_served w
 lacks_outcome words before served = record {
   commands = (λ two. absurd (cc two), λ none. absurd (true≢false (sym (served_known words served) ∙ none)));
   read = λ five. absurd (cc five);
-  heard = λ four five. refl;
+  source_read = λ four five. refl;
   disk = λ six. absurd (cc six);
   written = λ nine. absurd (cc nine);
   refused = λ is given. inr (inl refl);

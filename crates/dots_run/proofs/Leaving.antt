@@ -10,7 +10,7 @@ use Rattle.slot_store.specs.Opening.{Is}
 use Rattle.slot_store.specs.Layout.{needed_of}
 use Rattle.slot_journal.specs.Sizes.{slots_of}
 use Rattle.slot_journal.specs.declared.fault.JournalFault.{JournalFault}
-use Rattle.slot_journal.specs.DiskEntries.{Holds}
+use Rattle.slot_journal.specs.DiskEntries.{HasEntries}
 use Rattle.slot_journal.proofs.Crashing.{one_history}
 use Rattle.dots_history.specs.declared.entry.Entry.{Entry}
 use Rattle.dots_settings.specs.Settings.{SettingsValue}
@@ -51,34 +51,34 @@ leaves_any m (Some old) (Some new) P image leaves left =
 
 -- a run over what a crash left of one that recovered nothing finds what that could have found
 pub opens : (settings : SettingsValue) (fault : JournalFault) (before now : Outside) (first : Unrecovers settings fault before now) (seen : ℕ → ℕ) (entries : List Entry) → RestsWith before.media (Is seen)
-    → Holds settings seen entries → (m : ℕ) (image : ℕ → ℕ) → CrashLeaves m before.media now.media image → (then after : Outside) (second : HasServed settings then after) → Sees then.media image → second.held ≡ entries
+    → HasEntries settings seen entries → (m : ℕ) (image : ℕ → ℕ) → CrashLeaves m before.media now.media image → (then after : Outside) (second : HasServed settings then after) → Sees then.media image → second.stored ≡ entries
 opens settings fault before now first seen entries rests holds m image left then after second there =
-    let held = leaves_any m before.media now.media (λ image. Holds settings image entries) image (first.moments seen entries rests holds) left in
-    one_history settings image second.held entries (second.was_held image there) held
+    let stored = leaves_any m before.media now.media (λ image. HasEntries settings image entries) image (first.moments seen entries rests holds) left in
+    one_history settings image second.stored entries (second.was_stored image there) stored
 
 module _ (settings : SettingsValue) (before now : Outside) (first : HasServed settings before now)
     (seen : ℕ → ℕ) (sees : Sees before.media seen) (rests : RestsWith before.media (Is seen)) (xs ys : List Timed) (old : before.acts ≡ Some xs) (new : now.acts ≡ Some ys)
     (m : ℕ) (image : ℕ → ℕ) (left : CrashLeaves m before.media now.media image) where
-  has_run : Added (Some xs) (Some ys) (HasRun settings (begun_from settings first.held) (first.runs_from seen sees).how before now (first.runs_from seen sees).trace (first.runs_from seen sees).end)
+  has_run : Added (Some xs) (Some ys) (HasRun settings (begun_from settings first.stored) (first.runs_from seen sees).how before now (first.runs_from seen sees).trace (first.runs_from seen sees).end)
   has_run =
-      subst (λ acts. Added acts (Some ys) (HasRun settings (begun_from settings first.held) (first.runs_from seen sees).how before now (first.runs_from seen sees).trace (first.runs_from seen sees).end)) old
-      (subst (λ acts. Added before.acts acts (HasRun settings (begun_from settings first.held) (first.runs_from seen sees).how before now (first.runs_from seen sees).trace (first.runs_from seen sees).end)) new (first.runs_from seen sees).has_run)
+      subst (λ acts. Added acts (Some ys) (HasRun settings (begun_from settings first.stored) (first.runs_from seen sees).how before now (first.runs_from seen sees).trace (first.runs_from seen sees).end)) old
+      (subst (λ acts. Added before.acts acts (HasRun settings (begun_from settings first.stored) (first.runs_from seen sees).how before now (first.runs_from seen sees).trace (first.runs_from seen sees).end)) new (first.runs_from seen sees).has_run)
 
-  is_meant : MeansAt settings (begun_from settings first.held) has_run.0 (first.runs_from seen sees).trace (first.runs_from seen sees).end.last.history m image
+  is_meant : MeansAt settings (begun_from settings first.stored) has_run.0 (first.runs_from seen sees).trace (first.runs_from seen sees).end.last.history m image
   is_meant =
-      leaves_there m before.media now.media (MeansAt settings (begun_from settings first.held) has_run.0 (first.runs_from seen sees).trace (first.runs_from seen sees).end.last.history) image
+      leaves_there m before.media now.media (MeansAt settings (begun_from settings first.stored) has_run.0 (first.runs_from seen sees).trace (first.runs_from seen sees).end.last.history) image
       (has_run.2.survives seen rests) left
 
   pub goes_on : (then after : Outside) (second : HasServed settings then after) → Sees then.media image
       → (acts : List Timed) × (ys ≡ xs ++ acts)
-      × GoesOn settings (begun_from settings first.held) acts (first.runs_from seen sees).trace (first.runs_from seen sees).end.last.history m second.held
+      × GoesOn settings (begun_from settings first.stored) acts (first.runs_from seen sees).trace (first.runs_from seen sees).end.last.history m second.stored
   goes_on then after second there =
-      let found = found_again settings (begun_from settings first.held) has_run.0 (first.runs_from seen sees).trace (first.runs_from seen sees).end.last.history m image then.media second.held is_meant there second.was_held in
+      let found = found_again settings (begun_from settings first.stored) has_run.0 (first.runs_from seen sees).trace (first.runs_from seen sees).end.last.history m image then.media second.stored is_meant there second.was_stored in
       (has_run.0, has_run.1, record { count = found.0; within = found.1; has_shown = found.2; kept = found.3 })
 
   pub is_ready : (left_then : Option (List ℕ)) (then : Option Media) (extent : ℕ) (gives : GivesSettings left_then) → gives.settings ≡ settings → Sees then image
       → needed_of (slots_of settings) ≤ extent → IsReady left_then then extent
   is_ready left_then then extent gives same there large =
-      ready_again (begun_from settings first.held) has_run.0 (first.runs_from seen sees).trace (first.runs_from seen sees).end.last.history m image left_then then extent gives
-      (subst (λ s. MeansAt s (begun_from settings first.held) has_run.0 (first.runs_from seen sees).trace (first.runs_from seen sees).end.last.history m image) (sym same) is_meant) there
+      ready_again (begun_from settings first.stored) has_run.0 (first.runs_from seen sees).trace (first.runs_from seen sees).end.last.history m image left_then then extent gives
+      (subst (λ s. MeansAt s (begun_from settings first.stored) has_run.0 (first.runs_from seen sees).trace (first.runs_from seen sees).end.last.history m image) (sym same) is_meant) there
       (subst (λ s. needed_of (slots_of s) ≤ extent) (sym same) large)

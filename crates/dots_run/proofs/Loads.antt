@@ -10,10 +10,10 @@ use Rattle.dots_load.specs.Datagrams.{EachComing, AreBytes}
 use Rattle.dots_load.specs.Domains.{settings_text}
 use Rattle.dots_load.proofs.Alike.{one_outcome, one_text}
 use Rattle.dots_load.proofs.Byting.{all_bytes}
-use Rattle.dots_run.specs.Load.{rows_of, LoadTold}
+use Rattle.dots_run.specs.Load.{rows_of, LoadReported}
 use Rattle.dots_run.proofs.Unwatched.{Unwatching, UnwatchedStep, decided, unwatched_trace, all_unwatching}
 
-pub one_report : (seed : ℕ) (one other : List ℕ) → LoadTold seed one → LoadTold seed other → one ≡ other
+pub one_report : (seed : ℕ) (one other : List ℕ) → LoadReported seed one → LoadReported seed other → one ≡ other
 one_report seed one other a b =
     let settings = one_settings settings_text b.settings a.settings b.are a.are in
     let first = story_trace a.settings (resting (begun_from a.settings [])) (resting a.end) a.acts a.trace a.run in

@@ -10,7 +10,7 @@ use Rattle.file_checks.specs.Checks.{ChecksSettings, ChecksScript, fault_report}
 use Rattle.file_checks.specs.Summary.{summary}
 use Rattle.dots_run.specs.declared.topic.Topic.{Topic}
 use Rattle.dots_run.specs.declared.topic.Topic.TheVariants as topic
-use Rattle.dots_run.specs.Load.{TellsLoad}
+use Rattle.dots_run.specs.Load.{ReportsLoad}
 use Rattle.dots_run.specs.Reporting.{Comes, IsOf}
 use Rattle.dots_run.proofs.Loads.{one_report}
 use Rattle.dots_run.proofs.Scripts.{one_check}
@@ -30,7 +30,7 @@ once : (check : List ℕ → Checked → Type 0) → ((file : List ℕ) (one oth
     → (left : Option (List ℕ)) (one other : Checked) → Comes check left one → Comes check left other → one ≡ other
 once check law left one other a b = law a.bytes one other a.is (subst (λ bytes. check bytes other) (some_once b.bytes a.bytes left b.told a.told) b.is)
 
-one_load : (number : ℕ) (one other : Checked) → TellsLoad number one → TellsLoad number other → one ≡ other
+one_load : (number : ℕ) (one other : Checked) → ReportsLoad number one → ReportsLoad number other → one ≡ other
 one_load number (checked.Good text) (checked.Good other) a b = ap checked.Good (one_report number text other a b)
 one_load number (checked.Good text) (checked.AtFault other) a b = absurd b
 one_load number (checked.AtFault text) other a b = absurd a

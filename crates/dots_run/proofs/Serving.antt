@@ -19,8 +19,8 @@ use Rattle.dots_laws.specs.Calm.{is_own}
 use Rattle.dots_laws.specs.Fits.{is_calm, last_time}
 use Rattle.dots_laws.proofs.Composing.{kept_refl}
 use Rattle.dots_laws.proofs.Containing.{scrub_rows_inside, acl_rows_inside}
-use Rattle.slot_journal.specs.DiskEntries.{Holds}
-use Rattle.slot_journal.specs.Kept.{HoldsKept}
+use Rattle.slot_journal.specs.DiskEntries.{HasEntries}
+use Rattle.slot_journal.specs.Kept.{HasKept}
 use Rattle.dots_machine.specs.declared.ending.Ending.{Ending}
 use Rattle.dots_machine.specs.declared.ending.Ending.TheVariants as ending
 use Rattle.dots_machine.specs.declared.ending.Stop.{Stop}
@@ -40,16 +40,16 @@ use Rattle.dots_server.proofs.Turning.{none_added}
 contained_by : (settings : SettingsValue) (state : State) → list_all (is_own settings) state.history ≡ true → Contained settings state
 contained_by settings state own = record { scrubs = scrub_rows_inside settings state.time state.history own; lists = acl_rows_inside settings state.time state.history own }
 
-module _ (settings : SettingsValue) (held : List Entry) (how : Stop) (before between now : Outside) (end : Owing State) (calm : is_calm settings held ≡ true)
-    (silent : KeepsActs before.acts between.acts) (opened : (seen : ℕ → ℕ) → RestsWith before.media (Is seen) → Leaves before.media between.media (λ image. Holds settings image held))
+module _ (settings : SettingsValue) (stored : List Entry) (how : Stop) (before between now : Outside) (end : Owing State) (calm : is_calm settings stored ≡ true)
+    (silent : KeepsActs before.acts between.acts) (opened : (seen : ℕ → ℕ) → RestsWith before.media (Is seen) → Leaves before.media between.media (λ image. HasEntries settings image stored))
     (Rests : Type 0) (rested : (seen : ℕ → ℕ) → RestsWith before.media (Is seen) → Rests) where
   abbrev from : State
-  from = begun_from settings held
+  from = begun_from settings stored
 
-  holds_first : (image : ℕ → ℕ) → Holds settings image held → HoldsKept settings settings.limits.remembered from.time from.history image
-  holds_first image holds = record { entries = held; holds = holds; calm = calm; kept = kept_refl settings.limits.remembered from.time held }
+  has_first : (image : ℕ → ℕ) → HasEntries settings image stored → HasKept settings settings.limits.remembered from.time from.history image
+  has_first image image_has = record { entries = stored; image_has = image_has; calm = calm; kept = kept_refl settings.limits.remembered from.time stored }
 
-  lived_by : (trace : List State) (acts : List Timed) → (grows : (extra : List Entry) × (end.last.history ≡ held ++ extra)) → Ran settings from trace end how acts
+  lived_by : (trace : List State) (acts : List Timed) → (grows : (extra : List Entry) × (end.last.history ≡ stored ++ extra)) → Ran settings from trace end how acts
       → (Rests → NoneBefore (past_of between.media) acts × Survives settings from between.media now.media acts trace end.last.history) → HasRun settings from how before now trace end acts
   lived_by trace acts grows ran survived = record {
     ran = ran;
@@ -57,10 +57,10 @@ module _ (settings : SettingsValue) (held : List Entry) (how : Stop) (before bet
     survives = λ seen rests.
         let (late, survives) = survived (rested seen rests) in
         survives_opening settings from before.media between.media now.media acts trace end.last.history grows.0 grows.1 late (Is seen) rests
-        (leaves_as before.media between.media (λ image. Holds settings image held) (HoldsKept settings settings.limits.remembered from.time from.history) holds_first (opened seen rests)) survives;
+        (leaves_as before.media between.media (λ image. HasEntries settings image stored) (HasKept settings settings.limits.remembered from.time from.history) has_first (opened seen rests)) survives;
   }
 
-  pub lives_from : (wrote : State → Type 0) → Came settings from how between.media now.media Rests between.acts now.acts end → wrote end.last → RunsFrom settings held how before now wrote
+  pub lives_from : (wrote : State → Type 0) → Came settings from how between.media now.media Rests between.acts now.acts end → wrote end.last → RunsFrom settings stored how before now wrote
   lives_from wrote came reports = record {
     end = end;
     settled = came.settled;
@@ -72,38 +72,38 @@ module _ (settings : SettingsValue) (held : List Entry) (how : Stop) (before bet
     reports = reports;
   }
 
-module _ (settings : SettingsValue) (held : List Entry) (before between now : Outside) (calm : is_calm settings held ≡ true)
-    (silent : KeepsActs before.acts between.acts) (opened : (seen : ℕ → ℕ) → RestsWith before.media (Is seen) → Leaves before.media between.media (λ image. Holds settings image held))
-    (was_held : (seen : ℕ → ℕ) → Sees before.media seen → Holds settings seen held) (Rests : Type 0) (rested : (seen : ℕ → ℕ) → RestsWith before.media (Is seen) → Rests) where
+module _ (settings : SettingsValue) (stored : List Entry) (before between now : Outside) (calm : is_calm settings stored ≡ true)
+    (silent : KeepsActs before.acts between.acts) (opened : (seen : ℕ → ℕ) → RestsWith before.media (Is seen) → Leaves before.media between.media (λ image. HasEntries settings image stored))
+    (was_stored : (seen : ℕ → ℕ) → Sees before.media seen → HasEntries settings seen stored) (Rests : Type 0) (rested : (seen : ℕ → ℕ) → RestsWith before.media (Is seen) → Rests) where
   -- a run with this ending came there, where the disk is told, or where the acts are and none is a restart
   abbrev pub CameThere : Ending → Type 0
   CameThere how =
       IsKnown before now
-      → (stopped : Stop) × (end : Owing State) × Came settings (begun_from settings held) stopped between.media now.media Rests between.acts now.acts end × Wrote how stopped settings end.last before now
+      → (stopped : Stop) × (end : Owing State) × Came settings (begun_from settings stored) stopped between.media now.media Rests between.acts now.acts end × Wrote how stopped settings end.last before now
 
   abbrev pub WroteAny : Ending → Type 0
   WroteAny how = (stopped : Stop) × (state : State) × (list_all (is_own settings) state.history ≡ true) × Wrote how stopped settings state before now
 
   pub serves_to : (how : Ending) → CameThere how → WroteAny how → ServesTo how settings before now
   serves_to (ending.Served how) came any = record {
-    held = held;
+    stored = stored;
     calm = calm;
-    was_held = was_held;
+    was_stored = was_stored;
     runs_from = λ told.
         let (stopped, end, there, wrote) = came told in
-        lives_from settings held how before between now end calm silent opened Rests rested (Reports how settings before now)
-        (subst (λ h. Came settings (begun_from settings held) h between.media now.media Rests between.acts now.acts end) (sym wrote.0) there) wrote.1;
+        lives_from settings stored how before between now end calm silent opened Rests rested (Reports how settings before now)
+        (subst (λ h. Came settings (begun_from settings stored) h between.media now.media Rests between.acts now.acts end) (sym wrote.0) there) wrote.1;
     any = (any.1, contained_by settings any.1 any.2, any.3.1);
   }
   serves_to ending.ReportFailed came any = (
     record {
-      held = held;
+      stored = stored;
       calm = calm;
-      was_held = was_held;
+      was_stored = was_stored;
       runs_from = λ told.
           let (stopped, end, there, wrote) = came told in
-          lives_from settings held stop.Ended before between now end calm silent opened Rests rested (λ state. AppendsBeginning before.held now.held (report_of settings state))
-          (subst (λ h. Came settings (begun_from settings held) h between.media now.media Rests between.acts now.acts end) (sym wrote.0) there) wrote.1;
+          lives_from settings stored stop.Ended before between now end calm silent opened Rests rested (λ state. AppendsBeginning before.written now.written (report_of settings state))
+          (subst (λ h. Came settings (begun_from settings stored) h between.media now.media Rests between.acts now.acts end) (sym wrote.0) there) wrote.1;
       any = (any.1, contained_by settings any.1 any.2, any.3.1);
     },
     any.3.2,
@@ -129,8 +129,8 @@ followed_by Rests before now ys keeps added rested (by_disk seen sees) = inl (re
 followed_by Rests before now ys keeps added rested (by_acts never) = inr (never_since before.acts ys now.acts keeps added never)
 
 -- a run begins at the time of the last entry
-pub begun_zero : (settings : SettingsValue) (held : List Entry) → restarted settings (begun_from settings held) 0 ≡ begun_from settings held
-begun_zero settings held = ap (λ t. afresh settings held t) (no_later (last_time held))
+pub begun_zero : (settings : SettingsValue) (stored : List Entry) → restarted settings (begun_from settings stored) 0 ≡ begun_from settings stored
+begun_zero settings stored = ap (λ t. afresh settings stored t) (no_later (last_time stored))
   where
     no_later : (t : ℕ) → max 0 t ≡ t
     no_later t = omega arith

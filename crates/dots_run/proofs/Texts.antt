@@ -22,10 +22,10 @@ use Rattle.dots_machine.specs.Endings.{by_disk, HasRun, RunsFrom, Serves, Report
 use Rattle.dots_machine.specs.Report.{report_of}
 use Rattle.dots_run.specs.Blocks.{seeing, RunsInBlocks}
 use Rattle.dots_run.specs.Scripted.{Replays, JoinsTexts}
-use Rattle.dots_run.proofs.Blank.{zeros_hold_nothing}
+use Rattle.dots_run.proofs.Blank.{zeros_have_nothing}
 
 abbrev pub outer_of : Option (List ℕ) → Option (List ℕ) → ℕ → Outer
-outer_of script held failures = record { script = script; held = held; failures = failures }
+outer_of script written failures = record { script = script; written = written; failures = failures }
 
 all_added : (acts : List Timed) (P : List Timed → Type 0) → Added (Some []) (Some acts) P → P acts
 all_added acts P a = subst P (sym a.1) a.2
@@ -41,12 +41,12 @@ module _ (words : List (List ℕ)) (before after : Outside) (acts seen : List Ti
   sees_zeros : Sees before.media (byte_of [])
   sees_zeros = subst (λ media. Sees media (byte_of [])) (sym empty) refl
 
-  held_nothing : (settings : SettingsValue) (how : Stop) (wrote : State → Type 0) (serves : Serves settings how before after wrote) → serves.held ≡ []
-  held_nothing settings how wrote serves = one_history settings (byte_of []) serves.held [] (serves.was_held (byte_of []) sees_zeros) (zeros_hold_nothing settings)
+  stored_nothing : (settings : SettingsValue) (how : Stop) (wrote : State → Type 0) (serves : Serves settings how before after wrote) → serves.stored ≡ []
+  stored_nothing settings how wrote serves = one_history settings (byte_of []) serves.stored [] (serves.was_stored (byte_of []) sees_zeros) (zeros_have_nothing settings)
 
   served : (settings : SettingsValue) (how : Stop) (wrote : State → Type 0) → Serves settings how before after wrote → Replays settings how before after start now wrote
   served settings how wrote serves =
-      let runs_from = subst (λ held. RunsFrom settings held how before after wrote) (held_nothing settings how wrote serves) (serves.runs_from (by_disk (byte_of []) sees_zeros)) in
+      let runs_from = subst (λ stored. RunsFrom settings stored how before after wrote) (stored_nothing settings how wrote serves) (serves.runs_from (by_disk (byte_of []) sees_zeros)) in
       let has_run : Added (Some []) (Some seen) (HasRun settings (begun_from settings []) how before after runs_from.trace runs_from.end) =
       subst (λ old. Added old (Some seen) (HasRun settings (begun_from settings []) how before after runs_from.trace runs_from.end)) none
       (subst (λ new. Added before.acts new (HasRun settings (begun_from settings []) how before after runs_from.trace runs_from.end)) some runs_from.has_run) in
@@ -73,7 +73,7 @@ module _ (words : List (List ℕ)) (before after : Outside) (acts seen : List Ti
       subst (λ acts. Accounts start now acts) (no_more acts seen blocks handed_on silent) accounts
   joins (ending.Served how) behaves same = (behaves.1, behaves.2, served behaves.1 how (Reports how behaves.1 before after) behaves.3)
   joins ending.ReportFailed behaves same =
-      (behaves.1, behaves.2, served behaves.1 stop.Ended (λ state. AppendsBeginning before.held after.held (report_of behaves.1 state)) behaves.3.0)
+      (behaves.1, behaves.2, served behaves.1 stop.Ended (λ state. AppendsBeginning before.written after.written (report_of behaves.1 state)) behaves.3.0)
 
 -- the same of a host that had no acts, from which replies leave in blocks
 pub joins_blocks : (words : List (List ℕ)) (status : ℕ) (before now : Outside) (acts : List Timed) (uncalled : Type 0) → before.acts ≡ Some [] → now.acts ≡ Some acts
@@ -97,5 +97,5 @@ nothing_ahead None = refl
 nothing_ahead (Some text) = refl
 
 -- a host stands at first as its source and its sink do
-pub is_at_first : (left held : Option (List ℕ)) (failures : ℕ) → outer_of (to_come [] left) held failures ≡ outer_of left held failures
-is_at_first left held failures = ap (λ script. outer_of script held failures) (nothing_ahead left)
+pub is_at_first : (left written : Option (List ℕ)) (failures : ℕ) → outer_of (to_come [] left) written failures ≡ outer_of left written failures
+is_at_first left written failures = ap (λ script. outer_of script written failures) (nothing_ahead left)

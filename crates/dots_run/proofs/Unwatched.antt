@@ -172,7 +172,7 @@ none_left settings lists peer asked decided replies observed none is = subst (λ
   where
     by_asked : (asked : Watching) → NoneRegistered asked → observing settings lists peer asked decided replies [] ≡ []
     by_asked (watching.Registers observer) none = absurd none
-    by_asked (watching.Leaves token) none = either_way (is_unavailable replies)
+    by_asked (watching.Cancels token) none = either_way (is_unavailable replies)
     by_asked (watching.Rejects id) none = refl
     by_asked watching.Nothing none = refl
 

@@ -16,23 +16,23 @@ use Rattle.dots_machine.specs.Endings.{WritesRefusal}
 use Rattle.dots_server.specs.Running.{StopsFor}
 use Rattle.dots_run.specs.Refusals.{Counts, Wrote, WritesStop}
 
-module _ (settings : SettingsValue) (state : State) (held held_now : Option (List ℕ)) (report report_now wire wire_now disk disk_now : ℕ) (before now : Outside)
-    (at : Counts before held report wire disk) (then_at : Counts now held_now report_now wire_now disk_now) where
+module _ (settings : SettingsValue) (state : State) (written written_now : Option (List ℕ)) (report report_now wire wire_now disk disk_now : ℕ) (before now : Outside)
+    (at : Counts before written report wire disk) (then_at : Counts now written_now report_now wire_now disk_now) where
   -- the whole report was written
-  pub wrote_all : Appends held held_now (report_of settings state) → Wrote (ending.Served stop.Ended) stop.Ended settings state before now
+  pub wrote_all : Appends written written_now (report_of settings state) → Wrote (ending.Served stop.Ended) stop.Ended settings state before now
   wrote_all appends =
-      (refl, subst (λ h. Appends h now.held (report_of settings state)) (sym at.held) (subst (λ h. Appends held h (report_of settings state)) (sym then_at.held) appends))
+      (refl, subst (λ h. Appends h now.written (report_of settings state)) (sym at.written) (subst (λ h. Appends written h (report_of settings state)) (sym then_at.written) appends))
 
   -- a beginning of it, and the sink failed
-  pub wrote_some : AppendsBeginning held held_now (report_of settings state) → Rose report report_now → Wrote ending.ReportFailed stop.Ended settings state before now
+  pub wrote_some : AppendsBeginning written written_now (report_of settings state) → Rose report report_now → Wrote ending.ReportFailed stop.Ended settings state before now
   wrote_some appends rose = (
     refl,
-    subst (λ h. AppendsBeginning h now.held (report_of settings state)) (sym at.held) (subst (λ h. AppendsBeginning held h (report_of settings state)) (sym then_at.held) appends),
+    subst (λ h. AppendsBeginning h now.written (report_of settings state)) (sym at.written) (subst (λ h. AppendsBeginning written h (report_of settings state)) (sym then_at.written) appends),
     subst (λ r. Rose r now.report_faults) (sym at.report) (subst (λ r. Rose report r) (sym then_at.report) rose),
   )
 
-  still : held_now ≡ held → now.held ≡ before.held
-  still same = then_at.held ∙ same ∙ sym at.held
+  still : written_now ≡ written → now.written ≡ before.written
+  still same = then_at.written ∙ same ∙ sym at.written
 
   wire_rose : Rose wire wire_now → Rose before.wire_faults now.wire_faults
   wire_rose rose = subst (λ r. Rose r now.wire_faults) (sym at.wire) (subst (λ r. Rose wire r) (sym then_at.wire) rose)
@@ -40,15 +40,15 @@ module _ (settings : SettingsValue) (state : State) (held held_now : Option (Lis
   disk_rose : Rose disk disk_now → Rose before.disk_faults now.disk_faults
   disk_rose rose = subst (λ r. Rose r now.disk_faults) (sym at.disk) (subst (λ r. Rose disk r) (sym then_at.disk) rose)
 
-  refusal_there : (fault : JournalFault) → WritesRefusal fault held held_now (Rose report report_now) → WritesRefusal fault before.held now.held (Rose before.report_faults now.report_faults)
+  refusal_there : (fault : JournalFault) → WritesRefusal fault written written_now (Rose report report_now) → WritesRefusal fault before.written now.written (Rose before.report_faults now.report_faults)
   refusal_there fault wrote =
-      subst (λ h. WritesRefusal fault h now.held (Rose before.report_faults now.report_faults)) (sym at.held)
-      (subst (λ h. WritesRefusal fault held h (Rose before.report_faults now.report_faults)) (sym then_at.held)
-      (subst (λ r. WritesRefusal fault held held_now (Rose r now.report_faults)) (sym at.report)
-      (subst (λ r. WritesRefusal fault held held_now (Rose report r)) (sym then_at.report) wrote)))
+      subst (λ h. WritesRefusal fault h now.written (Rose before.report_faults now.report_faults)) (sym at.written)
+      (subst (λ h. WritesRefusal fault written h (Rose before.report_faults now.report_faults)) (sym then_at.written)
+      (subst (λ r. WritesRefusal fault written written_now (Rose r now.report_faults)) (sym at.report)
+      (subst (λ r. WritesRefusal fault written written_now (Rose report r)) (sym then_at.report) wrote)))
 
   -- it stopped otherwise
-  pub wrote_stop : (how : Stop) → StopsFor how (Rose wire wire_now) (Rose disk disk_now) → WritesStop how held held_now (Rose report report_now) → Wrote (ending.Served how) how settings state before now
+  pub wrote_stop : (how : Stop) → StopsFor how (Rose wire wire_now) (Rose disk disk_now) → WritesStop how written written_now (Rose report report_now) → Wrote (ending.Served how) how settings state before now
   wrote_stop stop.Ended cause wrote = absurd cause
   wrote_stop stop.NextFailed cause wrote = (refl, (still wrote, wire_rose cause))
   wrote_stop stop.TooMany cause wrote = (refl, still wrote)

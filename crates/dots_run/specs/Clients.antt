@@ -9,18 +9,18 @@ use Rattle.ask_agent.specs.Numbers.{mid_at, number_at}
 use Rattle.ask_agent.specs.Outcomes.{RunsAsk, AskOutcome}
 use Rattle.ask_agent.specs.Running.{Around}
 use Rattle.ask_agent.specs.declared.protect_ending.ProtectEnding.{ProtectEnding}
-use Rattle.ask_agent.specs.Protecting.{protect_status, has_protected, HasDone, NamesWord, TellsVerdict}
+use Rattle.ask_agent.specs.Protecting.{protect_status, has_protected, HasDone, NamesWord, ReachesVerdict}
 use Rattle.dots_run.specs.declared.topic_outcome.TopicOutcome.{TopicOutcome}
 use Rattle.dots_run.specs.Reporting.{outcome_status, Checks, Reports}
 
 -- What stands around a run over sockets: the host tells its acts.
 abbrev pub around_at : Option (List ℕ) → ℕ → Edge → Option (List ℕ) → ℕ → Around
-around_at left source_faults host held report_faults = record {
+around_at left source_faults host written report_faults = record {
   left = left;
   source_faults = source_faults;
   acts = acts_told host;
   wire_faults = host.wire;
-  held = held;
+  written = written;
   report_faults = report_faults;
 }
 
@@ -48,7 +48,7 @@ pub record ProtectsOver (words : List (List ℕ)) (status : ℕ) (before now : A
   pub idle : has_protected ending ≡ false → host ≡ first
   -- when the words are refused, and when what became of the ask must be told
   pub refused : NamesWord words ending
-  pub complete : TellsVerdict words ending before now
+  pub complete : ReachesVerdict words ending before now
 
 -- Telling of a client's settings ended with this status, from what the source had left and what the report held to what it holds now; and
 -- what must have failed.

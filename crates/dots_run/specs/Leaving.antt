@@ -7,7 +7,7 @@ use Rattle.dots_settings.specs.Settings.{SettingsValue}
 use Rattle.dots_history.specs.declared.entry.Entry.{Entry}
 use Rattle.dots_history.specs.Histories.{Kept}
 use Rattle.slot_store.specs.Gates.{Sees}
-use Rattle.slot_journal.specs.DiskEntries.{Holds}
+use Rattle.slot_journal.specs.DiskEntries.{HasEntries}
 use Rattle.dots_machine.specs.declared.ending.Stop.{Stop}
 use Rattle.dots_machine.specs.Machine.{State, begun_from}
 use Rattle.dots_machine.specs.Outside.{Outside}
@@ -31,30 +31,30 @@ CrashLeaves m (Some old) (Some new) image = IsLeftAt m old new image
 CrashLeaves m _ _ image = ⊥
 
 -- A run from these entries, whatever it wrote in the end: how it stopped, what it tells, and that its acts are a run of the machine.
-pub record RunsSo (settings : SettingsValue) (held : List Entry) (before now : Outside) : Type 0 where
+pub record RunsSo (settings : SettingsValue) (stored : List Entry) (before now : Outside) : Type 0 where
   pub how : Stop
   pub end : Owing State
   pub trace : List State
-  pub has_run : Added before.acts now.acts (HasRun settings (begun_from settings held) how before now trace end)
+  pub has_run : Added before.acts now.acts (HasRun settings (begun_from settings stored) how before now trace end)
 
 -- A run that came to serve, however it ended: it recovered entries, which are what the disk held, where it is told, and is a run from them.
 pub record HasServed (settings : SettingsValue) (before now : Outside) : Type 0 where
-  pub held : List Entry
-  pub was_held : (seen : ℕ → ℕ) → Sees before.media seen → Holds settings seen held
-  pub runs_from : (seen : ℕ → ℕ) → Sees before.media seen → RunsSo settings held before now
+  pub stored : List Entry
+  pub was_stored : (seen : ℕ → ℕ) → Sees before.media seen → HasEntries settings seen stored
+  pub runs_from : (seen : ℕ → ℕ) → Sees before.media seen → RunsSo settings stored before now
 
 -- each run that served has lived, whatever it wrote
 abbrev pub has_served : {settings : SettingsValue} {how : Stop} {before now : Outside} {wrote : State → Type 0} → Serves settings how before now wrote → HasServed settings before now
 has_served serves = record {
-  held = serves.held;
-  was_held = serves.was_held;
+  stored = serves.stored;
+  was_stored = serves.was_stored;
   runs_from = λ seen sees. record { how = _; end = (serves.runs_from (by_disk seen sees)).end; trace = (serves.runs_from (by_disk seen sees)).trace; has_run = (serves.runs_from (by_disk seen sees)).has_run };
 }
 
 -- These entries mean a front of the history to which a run came: they have its view at the machine's time at the moment, and it has at least the
 -- entries that were told before.
-pub record GoesOn (settings : SettingsValue) (start : State) (acts : List Timed) (trace : List State) (history : List Entry) (m : ℕ) (held : List Entry) : Type 0 where
+pub record GoesOn (settings : SettingsValue) (start : State) (acts : List Timed) (trace : List State) (history : List Entry) (m : ℕ) (stored : List Entry) : Type 0 where
   pub count : ℕ
   pub within : count ≤ length history
   pub has_shown : shown m acts trace (length start.history) ≤ count
-  pub kept : Kept settings.limits.remembered (time_at m acts trace start.time) held (take count history)
+  pub kept : Kept settings.limits.remembered (time_at m acts trace start.time) stored (take count history)

@@ -32,7 +32,7 @@ pub record RunsToEnd (acts : List Timed) (rows : ℕ) : Type 0 where
 
 -- The text is the report of a run of the machine, with the settings of a generated run and from an empty disk, over the events of a seed, to
 -- each of which it replied without a 5.00, and then End.
-pub record LoadTold (seed : ℕ) (text : List ℕ) : Type 0 where
+pub record LoadReported (seed : ℕ) (text : List ℕ) : Type 0 where
   pub settings : SettingsValue
   pub are : SettingsAre settings_text settings
   pub acts : List Timed
@@ -44,12 +44,12 @@ pub record LoadTold (seed : ℕ) (text : List ℕ) : Type 0 where
   pub text_is : text ≡ load_text acts (rows_of end)
 
 -- what is told of the generated run of a seed: there is no fault
-abbrev pub TellsLoad : ℕ → Checked → Type 0
-TellsLoad seed (checked.Good text) = LoadTold seed text
-TellsLoad seed (checked.AtFault text) = ⊥
+abbrev pub ReportsLoad : ℕ → Checked → Type 0
+ReportsLoad seed (checked.Good text) = LoadReported seed text
+ReportsLoad seed (checked.AtFault text) = ⊥
 
 -- what is found of it, or nothing for want of memory
 abbrev pub FindsLoad : ℕ → Result Checked Unchecked → Type 0
-FindsLoad seed (Ok found) = TellsLoad seed found
+FindsLoad seed (Ok found) = ReportsLoad seed found
 FindsLoad seed (Err unchecked.NoMemory) = ⊤
 FindsLoad seed (Err unchecked.ReadFailed) = ⊥

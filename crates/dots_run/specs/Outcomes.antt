@@ -11,7 +11,7 @@ pub record Outcome (words : List (List ℕ)) (status : ℕ) (before now : Outsid
   -- when the words are no line that the program knows; which faults there must have been, and where none was
   pub commands : (status ≡ 2) ↔ (is_known words ≡ false)
   pub read : status ≡ 5 → SourceFailed before now ⊎ WireFailed before now
-  pub heard : status ≢ 4 → status ≢ 5 → now.source_faults ≡ before.source_faults
+  pub source_read : status ≢ 4 → status ≢ 5 → now.source_faults ≡ before.source_faults
   pub disk : status ≡ 6 → DiskFailed before now
   pub written : status ≡ 9 → ReportFailed before now
   -- when the settings are refused, and when a run must go well, want of memory and 2^40 events without End aside: where the disk holds what a server

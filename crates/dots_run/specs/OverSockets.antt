@@ -27,7 +27,7 @@ pub record IsOpenedFrom (left : Option (List ℕ)) (unread : Type 0) (host : Edg
 
 -- What stands outside a run over sockets: the host tells its acts, and not what its disk holds.
 abbrev pub outside_at : Option (List ℕ) → ℕ → Edge → Option (List ℕ) → ℕ → Outside
-outside_at left source_faults host held report_faults = record {
+outside_at left source_faults host written report_faults = record {
   left = left;
   source_faults = source_faults;
   acts = acts_told host;
@@ -35,7 +35,7 @@ outside_at left source_faults host held report_faults = record {
   media = None;
   extent = room_of host.reserve;
   disk_faults = host.disk;
-  held = held;
+  written = written;
   report_faults = report_faults;
 }
 

@@ -19,7 +19,7 @@ use Rattle.dots_run.specs.Topics.{topic_of, names_settings}
 pub record HasReported (topic : Topic) (status : ℕ) (before now : Outside) (start end : Outer) : Type 0 where
   pub how : TopicOutcome
   pub status_is : status ≡ outcome_status how
-  pub reported : ReportsTopic topic how before.left before.held now.held (SourceFailed before now) (ReportFailed before now)
+  pub reported : ReportsTopic topic how before.left before.written now.written (SourceFailed before now) (ReportFailed before now)
   pub no_acts : now.acts ≡ before.acts
   pub stays : end ≡ start
 

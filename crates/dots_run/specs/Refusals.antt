@@ -18,7 +18,7 @@ WritesStop _ old new failed = new ≡ old
 
 -- what the report holds there, and how often the report, the wire and the disk failed
 pub record Counts (outside : Outside) (holds : Option (List ℕ)) (of_report of_wire of_disk : ℕ) : Type 0 where
-  pub held : outside.held ≡ holds
+  pub written : outside.written ≡ holds
   pub report : outside.report_faults ≡ of_report
   pub wire : outside.wire_faults ≡ of_wire
   pub disk : outside.disk_faults ≡ of_disk
@@ -27,5 +27,5 @@ pub record Counts (outside : Outside) (holds : Option (List ℕ)) (of_report of_
 abbrev pub Wrote : Ending → Stop → SettingsValue → State → Outside → Outside → Type 0
 Wrote (ending.Served how) stopped settings state before now = (how ≡ stopped) × Reports how settings before now state
 Wrote ending.ReportFailed stopped settings state before now =
-    (stop.Ended ≡ stopped) × AppendsBeginning before.held now.held (report_of settings state) × ReportFailed before now
+    (stop.Ended ≡ stopped) × AppendsBeginning before.written now.written (report_of settings state) × ReportFailed before now
 Wrote _ stopped settings state before now = ⊥

@@ -11,7 +11,7 @@ use Rattle.dots_run.specs.declared.topic.Topic.{Topic}
 use Rattle.dots_run.specs.declared.topic.Topic.TheVariants as topic
 use Rattle.dots_run.specs.declared.topic_outcome.TopicOutcome.{TopicOutcome}
 use Rattle.dots_run.specs.declared.topic_outcome.TopicOutcome.TheVariants as outcomes
-use Rattle.dots_run.specs.Load.{TellsLoad, FindsLoad}
+use Rattle.dots_run.specs.Load.{ReportsLoad, FindsLoad}
 use Rattle.dots_run.specs.Usage.{usage_text, version_text}
 
 abbrev pub outcome_status : TopicOutcome → ℕ
@@ -68,7 +68,7 @@ IsOf topic.Settings left found = Comes ChecksSettings left found
 IsOf topic.Script left found = Comes ChecksScript left found
 IsOf topic.Usage left found = found ≡ checked.Good usage_text
 IsOf topic.Version left found = found ≡ checked.Good version_text
-IsOf (topic.Load number) left found = TellsLoad number found
+IsOf (topic.Load number) left found = ReportsLoad number found
 
 -- there is no fault, and there is one
 abbrev pub IsSound : Topic → Option (List ℕ) → Type 0

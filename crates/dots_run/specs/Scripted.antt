@@ -22,7 +22,7 @@ use Rattle.dots_machine.specs.Report.{report_of}
 
 -- What stands outside a run over a script: before its first call no act, and a disk of 2^30 zeros; and then what its host has done.
 abbrev pub outside_first : Option (List ℕ) → ℕ → Option (List ℕ) → ℕ → Outside
-outside_first left source_faults held report_faults = record {
+outside_first left source_faults written report_faults = record {
   left = left;
   source_faults = source_faults;
   acts = Some [];
@@ -30,12 +30,12 @@ outside_first left source_faults held report_faults = record {
   media = Some (blank []);
   extent = 2 ^ 30;
   disk_faults = 0;
-  held = held;
+  written = written;
   report_faults = report_faults;
 }
 
 abbrev pub outside_with : {S K : Type 0} → Option (List ℕ) → ℕ → Scripting S K → Option (List ℕ) → ℕ → Outside
-outside_with left source_faults host held report_faults = record {
+outside_with left source_faults host written report_faults = record {
   left = left;
   source_faults = source_faults;
   acts = acts_told host.disk;
@@ -43,7 +43,7 @@ outside_with left source_faults host held report_faults = record {
   media = Some (media_since host.disk.acts);
   extent = host.disk.extent;
   disk_faults = host.disk.faults;
-  held = held;
+  written = written;
   report_faults = report_faults;
 }
 
@@ -66,6 +66,6 @@ JoinsTexts (ending.Served how) before after start now =
     (settings : SettingsValue) × IfSome before.left (λ bytes. SettingsAre bytes settings) × Replays settings how before after start now (Reports how settings before after)
 JoinsTexts ending.ReportFailed before after start now =
     (settings : SettingsValue) × IfSome before.left (λ bytes. SettingsAre bytes settings)
-    × Replays settings stop.Ended before after start now (λ state. AppendsBeginning before.held after.held (report_of settings state))
+    × Replays settings stop.Ended before after start now (λ state. AppendsBeginning before.written after.written (report_of settings state))
 JoinsTexts (ending.Unrecovered fault) before after start now = Accounts start now []
 JoinsTexts _ before after start now = now ≡ start

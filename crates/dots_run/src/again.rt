@@ -8,7 +8,7 @@ ghost use Rattle.slot_store.specs.Gates.{Sees};
 ghost use Rattle.slot_store.specs.Opening.{Is};
 ghost use Rattle.slot_store.specs.Layout.{needed_of};
 ghost use Rattle.slot_journal.specs.Sizes.{slots_of};
-ghost use Rattle.slot_journal.specs.DiskEntries.{Holds};
+ghost use Rattle.slot_journal.specs.DiskEntries.{HasEntries};
 ghost use Rattle.slot_journal.specs.declared.fault.JournalFault.{JournalFault};
 ghost use Rattle.dots_history.specs.declared.entry.Entry.{Entry};
 ghost use Rattle.dots_settings.specs.Settings.{SettingsValue};
@@ -53,14 +53,14 @@ pub fn run_again<H: Host, S: Source, K: Sink, G: Host, T: Source, L: Sink>(
         → (seen : ℕ → ℕ) (sees : Sees before.media seen) → RestsWith before.media (Is seen) → (xs ys : List Timed) → before.acts ≡ Some xs → now.acts ≡ Some ys
         → (m : ℕ) (image : ℕ → ℕ) → CrashLeaves m (H.media host.old) (H.media host.new) image → Sees (G.media other.old) image
         → (then after : Outside) (second : HasServed settings_of then after) → then.media ≡ G.media other.old
-        → (acts : List Timed) × (ys ≡ xs ++ acts) × GoesOn settings_of (begun_from settings_of first.held) acts (first.runs_from seen sees).trace (first.runs_from seen sees).end.last.history m second.held }
+        → (acts : List Timed) × (ys ≡ xs ++ acts) × GoesOn settings_of (begun_from settings_of first.stored) acts (first.runs_from seen sees).trace (first.runs_from seen sees).end.last.history m second.stored }
 
     // Where the first run recovered nothing, the second one recovers what the disk had held.
     ensures opens { (settings_of : SettingsValue) (fault : JournalFault) (before now : Outside) (first : Unrecovers settings_of fault before now)
         → before.media ≡ H.media host.old → now.media ≡ H.media host.new
-        → (seen : ℕ → ℕ) (entries : List Entry) → RestsWith before.media (Is seen) → Holds settings_of seen entries
+        → (seen : ℕ → ℕ) (entries : List Entry) → RestsWith before.media (Is seen) → HasEntries settings_of seen entries
         → (m : ℕ) (image : ℕ → ℕ) → CrashLeaves m (H.media host.old) (H.media host.new) image → Sees (G.media other.old) image
-        → (then after : Outside) (second : HasServed settings_of then after) → then.media ≡ G.media other.old → second.held ≡ entries }
+        → (then after : Outside) (second : HasServed settings_of then after) → then.media ≡ G.media other.old → second.stored ≡ entries }
 
     // And that disk isn't refused: where it is large enough and nothing fails, the second run goes well, want of memory and 2^40 events without End
     // aside.

@@ -2,7 +2,7 @@
 
 ghost use Rattle.std.specs.Prelude.{◌≡◌, ℕ, List, Option};
 ghost use Rattle.file_checks.specs.declared.checked.Checked.{Checked};
-ghost use Rattle.dots_run.specs.Load.{LoadTold};
+ghost use Rattle.dots_run.specs.Load.{LoadReported};
 ghost use Rattle.dots_run.specs.Reporting.{IsOf};
 
 use crate::topic::Topic;
@@ -14,5 +14,5 @@ pub fn one_text()
 
 /// A number has one report of its generated run.
 pub fn one_load_text()
-    ensures { (seed : ℕ) (one other : List ℕ) → LoadTold seed one → LoadTold seed other → one ≡ other }
+    ensures { (seed : ℕ) (one other : List ℕ) → LoadReported seed one → LoadReported seed other → one ≡ other }
 {}

@@ -4,7 +4,7 @@ ghost use Rattle.std.specs.Prelude.{◌≡◌, [], true, length, string_bytes, I
 ghost use Rattle.dots_host.specs.Acts.{wire_acts};
 ghost use Rattle.dots_disk.specs.Hosted.{HandsOut};
 ghost use Rattle.filter_table.specs.TableRows.{active_rows};
-ghost use Rattle.dots_run.specs.Load.{LoadTold, RunsToEnd};
+ghost use Rattle.dots_run.specs.Load.{LoadReported, RunsToEnd};
 
 use dots_disk::MemoryHost;
 use dots_host::MAX_EVENT_BYTES;
@@ -21,7 +21,7 @@ use std::alloc::Global;
 ///
 /// Only for want of memory: of this call, or of a call of the server or of its host.
 pub fn run_load(alloc: Global, seed: u64) -> Result<String, NoMemory>
-    ensures { IfOk result (λ text. LoadTold seed (string_bytes text)) }
+    ensures { IfOk result (λ text. LoadReported seed (string_bytes text)) }
 {
     let mut host = loaded_host(alloc, seed)?;
     let rows = serve_to_end(alloc, &mut host)?;

@@ -160,9 +160,9 @@ fn host_events<H: Host, K: Sink>(
 fn serve<H: Host, K: Sink>(server: Server, host: &mut H, report: &mut K) -> Ending
     requires size { needed_of server.journal.slots ≤ H.extent host.old }
     // The run, and what was written of its last state: where the disk is told, or where the acts are and none is a restart.
-    ensures came { (settings : SettingsValue) (start : State) (held : List Entry) → IsKept server settings start held
-        → IsFollowed (RestsWith (H.media host.old) (journal.Represents server.journal settings held)) (H.acts host.old) (H.acts host.new)
-        → (how : Stop) × (end : Owing State) × Came settings start how (H.media host.old) (H.media host.new) (RestsWith (H.media host.old) (journal.Represents server.journal settings held))
+    ensures came { (settings : SettingsValue) (start : State) (stored : List Entry) → IsKept server settings start stored
+        → IsFollowed (RestsWith (H.media host.old) (journal.Represents server.journal settings stored)) (H.acts host.old) (H.acts host.new)
+        → (how : Stop) × (end : Owing State) × Came settings start how (H.media host.old) (H.media host.new) (RestsWith (H.media host.old) (journal.Represents server.journal settings stored))
         (H.acts host.old) (H.acts host.new) end
         × ((before now : Outside) → Counts before (K.holds report.old) (K.faults report.old) (H.Wire.faults host.old) (H.Disk.faults host.old)
         → Counts now (K.holds report.new) (K.faults report.new) (H.Wire.faults host.new) (H.Disk.faults host.new) → Wrote result how settings end.last before now) }

@@ -69,7 +69,7 @@ pub fn run_program<
         (λ host. Runs (map string_bytes list.items) result.status
         (outside_first (option_and_then F.remaining file) 0 (R.contents report) 0)
         (outside_with (⟦<StdSource<F> as Source>⟧.left result.settings) (⟦<StdSource<F> as Source>⟧.faults result.settings) host (⟦<StdSink<R> as Sink>⟧.holds result.report) (⟦<StdSink<R> as Sink>⟧.faults result.report))
-        (record { script = I.remaining input; held = O.contents sends; failures = 0 })
+        (record { script = I.remaining input; written = O.contents sends; failures = 0 })
         (outer ⟦<StdSource<I> as Source>⟧.left ⟦<StdSource<I> as Source>⟧.faults ⟦<StdSink<O> as Sink>⟧.holds host))) }
     // With `check-script` the script stands in the place of the settings, no file is opened, and no script is left to be served.
     ensures checked { IfOk words.now (λ list. is_check_script (map string_bytes list.items) ≡ true → MatchOption result.checked ⊥ (λ script.
@@ -77,7 +77,7 @@ pub fn run_program<
         (λ host. Runs (map string_bytes list.items) result.status
         (outside_first (I.remaining input) 0 (R.contents report) 0)
         (outside_with (⟦<StdSource<I> as Source>⟧.left script) (⟦<StdSource<I> as Source>⟧.faults script) host (⟦<StdSink<R> as Sink>⟧.holds result.report) (⟦<StdSink<R> as Sink>⟧.faults result.report))
-        (record { script = None; held = O.contents sends; failures = 0 })
+        (record { script = None; written = O.contents sends; failures = 0 })
         (outer ⟦<StdSource<I> as Source>⟧.left ⟦<StdSource<I> as Source>⟧.faults ⟦<StdSink<O> as Sink>⟧.holds host)))) }
 {
     let mut report = StdSink::new(report);
@@ -132,7 +132,7 @@ fn check_input<F: Read + Drop, I: Read + Drop, O: Write + Drop, R: Write + Drop>
         (λ host. Runs (map string_bytes words.now) result.status
         (outside_first (I.remaining input) 0 (⟦<StdSink<R> as Sink>⟧.holds report) (⟦<StdSink<R> as Sink>⟧.faults report))
         (outside_with (⟦<StdSource<I> as Source>⟧.left script) (⟦<StdSource<I> as Source>⟧.faults script) host (⟦<StdSink<R> as Sink>⟧.holds result.report) (⟦<StdSink<R> as Sink>⟧.faults result.report))
-        (record { script = None; held = O.contents sends; failures = 0 })
+        (record { script = None; written = O.contents sends; failures = 0 })
         (outer ⟦<StdSource<I> as Source>⟧.left ⟦<StdSource<I> as Source>⟧.faults ⟦<StdSink<O> as Sink>⟧.holds host))) }
 {
     let mut report = report;

@@ -38,7 +38,7 @@ pub fn run_script<P: Source + Drop, K: Sink + Drop, S: Source, R: Sink>(
     ensures runs { IfSome result.host (λ host. Runs (map string_bytes words.now) result.status
         (outside_first (S.left settings.old) (S.faults settings.old) (R.holds report.old) (R.faults report.old))
         (outside_with (S.left settings.new) (S.faults settings.new) host (R.holds report.new) (R.faults report.new))
-        (record { script = P.left script; held = K.holds sends; failures = P.faults script })
+        (record { script = P.left script; written = K.holds sends; failures = P.faults script })
         (outer P.left P.faults K.holds host)) }
 {
     match ScriptHost::new(alloc, script, sends) {

@@ -205,13 +205,13 @@ appends_none (Some xs) (Some ys) is = ap (λ known. known_or known) is ∙ sym (
 -- ---- a call of next, and a call of send
 
 pub accounts_taken : (start old new : Outer) (before after : List Timed) (moment now : ℕ) (got : Event) (at : ℕ) → Adds (Some before) moment (Some after) now (took got at)
-    → NextIs old.script new.script got at (Rose old.failures new.failures) → old.failures ≤ new.failures → new.held ≡ old.held → Accounts start old before → Accounts start new after
-accounts_taken start old new before after moment now got at adds a later held h =
+    → NextIs old.script new.script got at (Rose old.failures new.failures) → old.failures ≤ new.failures → new.written ≡ old.written → Accounts start old before → Accounts start new after
+accounts_taken start old new before after moment now got at adds a later written h =
     let timed : Timed = record { moment = moment; act = took got at } in
     let all : Accounts start new (before ++ timed ∷ []) = record {
       later = omega (arith, later, h.later);
       read = read_known start.script old.script new.script start.failures old.failures new.failures before timed got at refl h.later later h.read a;
-      written = written_more start.held old.held new.held before timed [] h.written refl (appends_none old.held new.held held);
+      written = written_more start.written old.written new.written before timed [] h.written refl (appends_none old.written new.written written);
     } in
     subst (Accounts start new) (sym adds.0) all
 
@@ -248,7 +248,7 @@ pub piece_lost : (old new : Option (List ℕ)) (out : OwnedOut) (result : Sent) 
 piece_lost old new out result is part = record { text = part.front; writes = subst (λ (r : Sent). WireWrites (gave out (is_done r)) part.front) (sym is) (part.rest, part.split); appends = part.appends }
 
 pub accounts_given : (start old new : Outer) (before after : List Timed) (moment now : ℕ) (out : OwnedOut) (result : Sent) → Adds (Some before) moment (Some after) now (gave out (is_done result))
-    → new.script ≡ old.script → new.failures ≡ old.failures → Piece old.held new.held out result → Accounts start old before → Accounts start new after
+    → new.script ≡ old.script → new.failures ≡ old.failures → Piece old.written new.written out result → Accounts start old before → Accounts start new after
 accounts_given start old new before after moment now out result adds script failures one h =
     let timed : Timed = record { moment = moment; act = gave out (is_done result) } in
     let read = read_unchanged start.script old.script (Rose start.failures old.failures) before timed out (is_done result) refl h.read in
@@ -256,23 +256,23 @@ accounts_given start old new before after moment now out result adds script fail
       later = omega (arith, failures, h.later);
       read = subst (λ (rest : Option (List ℕ)). HasReadKnown start.script rest (Rose start.failures new.failures) (before ++ timed ∷ [])) (sym script)
           (subst (λ (count : ℕ). HasReadKnown start.script old.script (Rose start.failures count) (before ++ timed ∷ [])) (sym failures) read);
-      written = written_more start.held old.held new.held before timed one.text h.written one.writes one.appends;
+      written = written_more start.written old.written new.written before timed one.text h.written one.writes one.appends;
     } in
     subst (Accounts start new) (sym adds.0) all
 
 -- ---- nothing was called yet
 
 pub accounts_none : (start : Outer) → Accounts start start []
-accounts_none start = record { later = omega arith; read = read_none start.script; written = record { text = []; made = refl; appends = Appends-nil start.held } }
+accounts_none start = record { later = omega arith; read = read_none start.script; written = record { text = []; made = refl; appends = Appends-nil start.written } }
   where
     read_none : (script : Option (List ℕ)) → HasReadKnown script script (Rose start.failures start.failures) []
     read_none None = tt
     read_none (Some script) = record { lines = []; split = refl; said = refl; ended = λ none. absurd none; failed = λ none. absurd none }
 
-begun : (left held : Option (List ℕ)) (failures : ℕ) → Accounts (record { script = left; held = held; failures = failures }) (record { script = to_come [] left; held = held; failures = failures }) []
-begun None held failures = accounts_none (record { script = None; held = held; failures = failures })
-begun (Some script) held failures = accounts_none (record { script = Some script; held = held; failures = failures })
+begun : (left written : Option (List ℕ)) (failures : ℕ) → Accounts (record { script = left; written = written; failures = failures }) (record { script = to_come [] left; written = written; failures = failures }) []
+begun None written failures = accounts_none (record { script = None; written = written; failures = failures })
+begun (Some script) written failures = accounts_none (record { script = Some script; written = written; failures = failures })
 
-pub accounts_begun : (left held : Option (List ℕ)) (failures : ℕ) (ahead : List ℕ) (acts : List Act) → ahead ≡ [] → acts ≡ []
-    → Accounts (record { script = left; held = held; failures = failures }) (record { script = to_come ahead left; held = held; failures = failures }) (wire_acts 0 acts)
-accounts_begun left held failures ahead acts none no_acts = rw (none, no_acts) (begun left held failures)
+pub accounts_begun : (left written : Option (List ℕ)) (failures : ℕ) (ahead : List ℕ) (acts : List Act) → ahead ≡ [] → acts ≡ []
+    → Accounts (record { script = left; written = written; failures = failures }) (record { script = to_come ahead left; written = written; failures = failures }) (wire_acts 0 acts)
+accounts_begun left written failures ahead acts none no_acts = rw (none, no_acts) (begun left written failures)

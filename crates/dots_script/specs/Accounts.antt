@@ -80,18 +80,18 @@ pub record HasWritten (old new : Option (List ℕ)) (acts : List Timed) : Type 0
 -- what is known to come of a script, what a sink is known to hold, and how often the source of the script failed
 pub record Outer : Type 0 where
   pub script : Option (List ℕ)
-  pub held : Option (List ℕ)
+  pub written : Option (List ℕ)
   pub failures : ℕ
 
 -- from the one standing to the other the acts have read the script and written their sends
 pub record Accounts (start now : Outer) (acts : List Timed) : Type 0 where
   pub later : start.failures ≤ now.failures
   pub read : HasReadKnown start.script now.script (Rose start.failures now.failures) acts
-  pub written : HasWritten start.held now.held acts
+  pub written : HasWritten start.written now.written acts
 
 -- how a host stands, by what its source and its sink tell
 abbrev pub outer : {S K : Type 0} → (S → Option (List ℕ)) → (S → ℕ) → (K → Option (List ℕ)) → Scripting S K → Outer
-outer left failures holds host = record { script = to_come host.ahead (left host.source); held = holds host.sink; failures = failures host.source }
+outer left failures holds host = record { script = to_come host.ahead (left host.source); written = holds host.sink; failures = failures host.source }
 
 -- the acts of a host are all that was read and written since that start
 abbrev pub AccountsSince : {S K : Type 0} → (S → Option (List ℕ)) → (S → ℕ) → (K → Option (List ℕ)) → Outer → Scripting S K → Type 0

@@ -20,7 +20,7 @@ keeps_script_then old between new a b = record {
 
 module _ {S K : Type 0} (left : S → Option (List ℕ)) (failures : S → ℕ) (holds : K → Option (List ℕ)) where
   abbrev outer_of : List ℕ → S → K → Outer
-  outer_of ahead source sink = record { script = to_come ahead (left source); held = holds sink; failures = failures source }
+  outer_of ahead source sink = record { script = to_come ahead (left source); written = holds sink; failures = failures source }
 
   -- calls of the disk alone change nothing of how the wire stands
   pub outer_stays : (old new : Scripting S K) → KeepsScript old new → outer left failures holds new ≡ outer left failures holds old

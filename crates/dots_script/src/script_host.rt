@@ -64,7 +64,7 @@ impl<S: Source + Drop, K: Sink + Drop> ScriptHost<S, K> {
             record { source = source; ahead = []; sink = sink; disk = zeros (2 ^ 30); faults = 0 }) }
         // It has read and written nothing yet.
         ensures accounts { IfOk result (λ host. AccountsSince S.left S.faults K.holds
-            (record { script = S.left source; held = K.holds sink; failures = S.faults source }) host) }
+            (record { script = S.left source; written = K.holds sink; failures = S.faults source }) host) }
     {
         let block = Block::new(alloc)?;
         let room = vec![in alloc; 0u8; SEND_ROOM]?;

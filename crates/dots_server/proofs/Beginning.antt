@@ -19,7 +19,7 @@ use Rattle.slot_store.specs.Layout.{needed_of}
 use Rattle.slot_store.specs.StoreValues.{JournalValue}
 use Rattle.slot_journal.specs.declared.fault.JournalFault.{JournalFault}
 use Rattle.slot_journal.specs.Sizes.{slots_of}
-use Rattle.slot_journal.specs.DiskEntries.{HasRecord, Holds, records_of}
+use Rattle.slot_journal.specs.DiskEntries.{HasRecord, HasEntries, records_of}
 use Rattle.slot_journal.specs.DiskEntries as journal
 use Rattle.slot_journal.proofs.Writing.{holds}
 use Rattle.slot_journal.proofs.Crashing.{one_history}
@@ -165,8 +165,8 @@ module _ (settings : SettingsValue) (at : ℕ) (old new : ServerValue) (state : 
 -- ---- the disk
 
 -- a journal that represents entries on an image: the image holds them
-pub represents_holds : (value : JournalValue) (settings : SettingsValue) (entries : List Entry) (image : ℕ → ℕ) → journal.Represents value settings entries image → Holds settings image entries
-represents_holds value settings entries image is = holds settings value.slots image (records_of entries) entries is.slots (record { same = refl; each = is.each }) (inr is.represents.journal)
+pub represents_has : (value : JournalValue) (settings : SettingsValue) (entries : List Entry) (image : ℕ → ℕ) → journal.Represents value settings entries image → HasEntries settings image entries
+represents_has value settings entries image is = holds settings value.slots image (records_of entries) entries is.slots (record { same = refl; each = is.each }) (inr is.represents.journal)
 
 -- where the disk rests with them, a read gives them, and what is recovered is the same
 pub seen_of : (media : Option Media) (P : (ℕ → ℕ) → Type 0) → RestsWith media P → (seen : ℕ → ℕ) × Sees media seen × RestsWith media (Is seen) × P seen
@@ -174,32 +174,32 @@ seen_of None P rests = absurd rests
 seen_of (Some media) P rests = (media.now.seen, refl, (rests.0, refl), rests.1)
 
 pub same_found : (settings : SettingsValue) (media : Option Media) (value : JournalValue) (entries found : List Entry) → RestsWith media (journal.Represents value settings entries)
-    → ((seen : ℕ → ℕ) → Sees media seen → Holds settings seen found) → found ≡ entries
+    → ((seen : ℕ → ℕ) → Sees media seen → HasEntries settings seen found) → found ≡ entries
 same_found settings media value entries found rests found_there =
     let (seen, sees, is, represents) = seen_of media (journal.Represents value settings entries) rests in
-    one_history settings seen found entries (found_there seen sees) (represents_holds value settings entries seen represents)
+    one_history settings seen found entries (found_there seen sees) (represents_has value settings entries seen represents)
 
 -- ---- a restart finds what was left, under the settings that the server had
 
 module _ (settings given : SettingsValue) (same : given ≡ settings) (old : ServerValue) (state : State) (entries : List Entry) (kept : IsKept old settings state entries) (media media_new : Option Media)
     (rests : RestsWith media (journal.Represents old.journal settings entries)) where
-  pub restart_moments : ((seen : ℕ → ℕ) (held : List Entry) → RestsWith media (Is seen) → Holds given seen held → Leaves media media_new (λ image. Holds given image held))
-      → Leaves media media_new (λ image. Holds settings image entries)
+  pub restart_moments : ((seen : ℕ → ℕ) (held : List Entry) → RestsWith media (Is seen) → HasEntries given seen held → Leaves media media_new (λ image. HasEntries given image held))
+      → Leaves media media_new (λ image. HasEntries settings image entries)
   restart_moments moments =
       let (seen, sees, is, represents) = seen_of media (journal.Represents old.journal settings entries) rests in
-      let holds = represents_holds old.journal settings entries seen represents in
-      subst (λ s. Leaves media media_new (λ image. Holds s image entries)) same (moments seen entries is (subst (λ s. Holds s seen entries) (sym same) holds))
+      let holds = represents_has old.journal settings entries seen represents in
+      subst (λ s. Leaves media media_new (λ image. HasEntries s image entries)) same (moments seen entries is (subst (λ s. HasEntries s seen entries) (sym same) holds))
 
   pub restart_fails : (extent : ℕ) (fault : JournalFault) → needed_of (slots_of settings) ≤ extent
       → ((seen : ℕ → ℕ) → Sees media seen → RefusesLedger given extent seen media_new fault) → IsFailure fault
   restart_fails extent fault size refused =
       let (seen, sees, is, represents) = seen_of media (journal.Represents old.journal settings entries) rests in
       fails_alone settings extent seen media_new entries fault (subst (λ s. RefusesLedger s extent seen media_new fault) same (refused seen sees))
-      (represents_holds old.journal settings entries seen represents) kept.represents.ledger.calm size
+      (represents_has old.journal settings entries seen represents) kept.represents.ledger.calm size
 
   module _ (at : ℕ) (new : ServerValue) where
     found_same : (held : List Entry) → IsKept new settings (restarted settings (begun_from settings held) at) held
-        → ((seen : ℕ → ℕ) → Sees media seen → Holds settings seen held × RestsWith media_new (journal.Represents new.journal settings held))
+        → ((seen : ℕ → ℕ) → Sees media seen → HasEntries settings seen held × RestsWith media_new (journal.Represents new.journal settings held))
         → IsKept new settings (restarted settings state at) entries × RestsWith media_new (journal.Represents new.journal settings entries)
     found_same held begun found =
         let (seen, sees, is, represents) = seen_of media (journal.Represents old.journal settings entries) rests in
@@ -209,8 +209,8 @@ module _ (settings given : SettingsValue) (same : given ≡ settings) (old : Ser
         )
 
     pub restart_found : (held : List Entry) → IsKept new given (restarted given (begun_from given held) at) held
-        → ((seen : ℕ → ℕ) → Sees media seen → Holds given seen held × RestsWith media_new (journal.Represents new.journal given held))
+        → ((seen : ℕ → ℕ) → Sees media seen → HasEntries given seen held × RestsWith media_new (journal.Represents new.journal given held))
         → IsKept new settings (restarted settings state at) entries × RestsWith media_new (journal.Represents new.journal settings entries)
     restart_found held begun found =
         found_same held (subst (λ s. IsKept new s (restarted s (begun_from s held) at) held) same begun)
-        (subst (λ s. (seen : ℕ → ℕ) → Sees media seen → Holds s seen held × RestsWith media_new (journal.Represents new.journal s held)) same found)
+        (subst (λ s. (seen : ℕ → ℕ) → Sees media seen → HasEntries s seen held × RestsWith media_new (journal.Represents new.journal s held)) same found)

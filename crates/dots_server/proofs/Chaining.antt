@@ -10,12 +10,12 @@ use Rattle.dots_settings.specs.Settings.{SettingsValue}
 use Rattle.dots_history.specs.declared.entry.Entry.{Entry}
 use Rattle.dots_laws.specs.Calm.{is_own}
 use Rattle.slot_store.specs.StoreValues.{JournalValue}
-use Rattle.slot_journal.specs.Kept.{HoldsKept}
+use Rattle.slot_journal.specs.Kept.{HasKept}
 use Rattle.rest_answers.specs.Turns.{entries_of}
 use Rattle.dots_machine.specs.Machine.{State, AnswersFront, receiving}
 use Rattle.dots_machine.proofs.Fronts.{front_history, front_time}
 use Rattle.dots_server.specs.ServerValues.{ServerValue, IsKept}
-use Rattle.dots_server.specs.Turning.{HoldsTurn, Turned, Broke, Stored, LiesOn, IsStored, Grows, last_left, Chained}
+use Rattle.dots_server.specs.Turning.{HasTurn, Turned, Broke, Stored, LiesOn, IsStored, Grows, last_left, Chained}
 use Rattle.dots_server.specs.Taking.{stored_of}
 use Rattle.dots_server.specs.Pieces.{FrontRests, FrontBroke, PieceAnswered, TurnsTaken, PieceTaken, PieceBroke}
 use Rattle.dots_server.proofs.Looping.{kept_stored}
@@ -23,11 +23,11 @@ use Rattle.dots_server.proofs.Looping.{kept_stored}
 -- ---- a turn from other states with these histories
 
 module _ (settings : SettingsValue) (one other new now : State) (was : one.history ≡ other.history) (is : new.history ≡ now.history) (time : new.time ≡ now.time) where
-  as_held : (image : ℕ → ℕ) → HoldsTurn settings one new image → HoldsTurn settings other now image
+  as_held : (image : ℕ → ℕ) → HasTurn settings one new image → HasTurn settings other now image
   as_held image (inl holds) =
-      inl (subst (λ t. HoldsKept settings settings.limits.remembered t other.history image) time (subst (λ es. HoldsKept settings settings.limits.remembered new.time es image) was holds))
+      inl (subst (λ t. HasKept settings settings.limits.remembered t other.history image) time (subst (λ es. HasKept settings settings.limits.remembered new.time es image) was holds))
   as_held image (inr holds) =
-      inr (subst (λ t. HoldsKept settings settings.limits.remembered t now.history image) time (subst (λ es. HoldsKept settings settings.limits.remembered new.time es image) is holds))
+      inr (subst (λ t. HasKept settings settings.limits.remembered t now.history image) time (subst (λ es. HasKept settings settings.limits.remembered new.time es image) is holds))
 
   module _ (Before : (ℕ → ℕ) → Type 0) (media media_new : Option Media) (acts acts_new : Option (List Timed)) where
     pub turned_as : (outs : List OwnedOut) (After : (ℕ → ℕ) → Type 0) → Turned settings one new outs Before After media media_new acts acts_new
@@ -37,7 +37,7 @@ module _ (settings : SettingsValue) (one other new now : State) (was : one.histo
       moment = turned.moment;
       is_moment = turned.is_moment;
       gives = turned.gives;
-      writes = λ rests. leaves_as media turned.between (HoldsTurn settings one new) (HoldsTurn settings other now) as_held (turned.writes rests);
+      writes = λ rests. leaves_as media turned.between (HasTurn settings one new) (HasTurn settings other now) as_held (turned.writes rests);
       rests = turned.rests;
       sends = turned.sends;
     }
@@ -45,7 +45,7 @@ module _ (settings : SettingsValue) (one other new now : State) (was : one.histo
     pub broke_as : Broke settings one new Before media media_new acts acts_new → Broke settings other now Before media media_new acts acts_new
     broke_as broke = record {
       silent = broke.silent;
-      writes = λ rests. leaves_as media media_new (HoldsTurn settings one new) (HoldsTurn settings other now) as_held (broke.writes rests);
+      writes = λ rests. leaves_as media media_new (HasTurn settings one new) (HasTurn settings other now) as_held (broke.writes rests);
       own = subst (λ es. list_all (is_own settings) es ≡ true) is broke.own;
     }
 

@@ -3,8 +3,8 @@ use Rattle.std.proofs.Common.{ℕ, List, sym, ap, subst}
 use Rattle.dots_settings.specs.Settings.{SettingsValue}
 use Rattle.dots_history.specs.declared.entry.Entry.{Entry}
 use Rattle.stream_table.specs.declared.place.LinePlace.{LinePlace}
-use Rattle.stream_table.specs.Lines.{Line, PeerLines, AreOf, opened, forgotten, holding}
-use Rattle.stream_table.specs.Places.{AreApart, NowHolds}
+use Rattle.stream_table.specs.Lines.{Line, PeerLines, AreOf, opened, forgotten, buffering}
+use Rattle.stream_table.specs.Places.{AreApart, NowBuffers}
 use Rattle.stream_table.proofs.Apart.{apart_opened, apart_forgotten}
 use Rattle.stream_table.proofs.Clients.{opened_of, forgotten_of, holding_of}
 use Rattle.dots_machine.specs.Machine.{State}
@@ -64,8 +64,8 @@ forgotten_lives conn old serving =
     lines_live (forgotten conn) old serving (forgotten_of old.settings.peers conn old.lines serving.rows) (apart_forgotten conn old.lines serving.apart)
 
 -- other bytes are held at a place
-pub held_lives : (place : LinePlace) (becomes : List ℕ → List ℕ) (old : ServerValue) (new : List PeerLines) (line : Line) → NowHolds place becomes old.lines new line → IsServing old
+pub held_lives : (place : LinePlace) (becomes : List ℕ → List ℕ) (old : ServerValue) (new : List PeerLines) (line : Line) → NowBuffers place becomes old.lines new line → IsServing old
     → IsServing (record old { lines = new })
 held_lives place becomes old new line holds serving =
     subst (λ (lines : List PeerLines). IsServing (record old { lines = lines })) (sym holds.all)
-    (lines_live (holding line.conn becomes) old serving (holding_of old.settings.peers line.conn becomes old.lines serving.rows) (apart_holding line.conn becomes old.lines serving.apart))
+    (lines_live (buffering line.conn becomes) old serving (holding_of old.settings.peers line.conn becomes old.lines serving.rows) (apart_holding line.conn becomes old.lines serving.apart))

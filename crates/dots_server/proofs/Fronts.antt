@@ -15,8 +15,8 @@ use Rattle.slot_journal.specs.DiskEntries as journal
 use Rattle.http_cut.specs.declared.fault.HttpFault.{HttpFault}
 use Rattle.http_cut.specs.Requests.{waits, IsCut}
 use Rattle.stream_table.specs.declared.place.LinePlace.{LinePlace}
-use Rattle.stream_table.specs.Lines.{Line, PeerLines, line_of, forgotten, holding}
-use Rattle.stream_table.specs.Places.{AreApart, IsAt, NowHolds, with_more}
+use Rattle.stream_table.specs.Lines.{Line, PeerLines, line_of, forgotten, buffering}
+use Rattle.stream_table.specs.Places.{AreApart, IsAt, NowBuffers, with_more}
 use Rattle.rest_answers.specs.declared.answer.RestAnswer.TheVariants as answer
 use Rattle.rest_answers.specs.declared.front.RestFront.TheVariants as fronts
 use Rattle.rest_answers.specs.Answer.{RestAnswer}
@@ -69,7 +69,7 @@ module _ (settings : SettingsValue) (conn : ℕ) (place : LinePlace) (old : Serv
   pub front_rests : StandsThere settings conn state at.line fronts.Waits → (now : ServerValue) → now ≡ old → (media : Option Media) (acts : Option (List Timed))
       → FrontRests settings conn state old now entries media media acts acts
   front_rests stands now same media acts = record {
-    rests = subst (λ (o : Option Line). MatchOption o ⊤ (λ line. IsCut line.held waits)) (sym line_there) stands.2;
+    rests = subst (λ (o : Option Line). MatchOption o ⊤ (λ line. IsCut line.buffered waits)) (sym line_there) stands.2;
     kept = subst (λ (server : ServerValue). IsKept server settings state entries) (sym same) kept;
     written = ap (λ (server : ServerValue). server.journal) same;
     still = refl;
@@ -100,7 +100,7 @@ module _ (settings : SettingsValue) (conn : ℕ) (place : LinePlace) (old : Serv
   -- a request stands there
   module _ (size : ℕ) (close : Bool) (answered : RestAnswer) (stands : StandsThere settings conn state at.line (fronts.Answered size close answered)) where
     abbrev becomes : List PeerLines → List PeerLines
-    becomes lines = cond close (forgotten conn lines) (holding conn (drop size) lines)
+    becomes lines = cond close (forgotten conn lines) (buffering conn (drop size) lines)
 
     abbrev answered_so : State
     answered_so = with_lines becomes (having answered state)
@@ -190,7 +190,7 @@ module _ (settings : SettingsValue) (conn : ℕ) (rest : List ℕ) (state : Stat
       let gone : line_of conn state.lines ≡ None = ap (line_of conn) (sym kept.represents.represents.lines) ∙ none in
       let same = holding_nowhere conn (with_more rest) state.lines gone in
       record {
-        rests = subst (λ (o : Option Line). MatchOption o ⊤ (λ line. IsCut line.held waits)) (sym (ap (line_of conn) same ∙ gone)) tt;
+        rests = subst (λ (o : Option Line). MatchOption o ⊤ (λ line. IsCut line.buffered waits)) (sym (ap (line_of conn) same ∙ gone)) tt;
         kept = subst (λ (lines : List PeerLines). IsKept old settings (record state { lines = lines }) entries) (sym same) kept;
         written = refl;
         still = refl;
@@ -198,7 +198,7 @@ module _ (settings : SettingsValue) (conn : ℕ) (rest : List ℕ) (state : Stat
       }
 
   -- these bytes of the rest are held
-  module _ (n : ℕ) (place : LinePlace) (at : IsAt conn place old.lines) (held : ServerValue) (holds : NowHolds place (with_more (take n rest)) old.lines held.lines at.line)
+  module _ (n : ℕ) (place : LinePlace) (at : IsAt conn place old.lines) (held : ServerValue) (holds : NowBuffers place (with_more (take n rest)) old.lines held.lines at.line)
       (others : held ≡ record old { lines = held.lines }) where
     written : held.journal ≡ old.journal
     written = ap (λ (server : ServerValue). server.journal) others

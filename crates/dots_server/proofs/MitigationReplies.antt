@@ -29,10 +29,10 @@ module _ (content : Content) (wanted : Option ℕ) where
 
 -- what is told of those that there are, and where there is none
 pub tells_some : (x : Exchange) (content : Content) (ms : List LiveView) (views : List MitigationView) → map scope_of views ≡ map (mitigation_fields content) ms → views ≢ []
-    → verdict.Shows x (canon (mitigations_with (map scope_of views))) ≡ get_reply x content ms
+    → verdict.Retrieves x (canon (mitigations_with (map scope_of views))) ≡ get_reply x content ms
 tells_some x content [] [] are some = absurd (some refl)
 tells_some x content [] (v ∷ vs) are some = absurd (cc are)
-tells_some x content (m ∷ ms) views are some = ap (λ scopes. verdict.Shows x (canon (mitigations_with scopes))) are
+tells_some x content (m ∷ ms) views are some = ap (λ scopes. verdict.Retrieves x (canon (mitigations_with scopes))) are
 
 pub tells_none : (x : Exchange) (content : Content) (ms : List LiveView) (views : List MitigationView) → map scope_of views ≡ map (mitigation_fields content) ms → views ≡ []
     → verdict.Reply (absent x) ≡ get_reply x content ms

@@ -60,7 +60,7 @@ module _ (old : ServerValue) (watch : Watch) (settings : SettingsValue) (state :
 -- what others were notified of goes on being what there is to see
 still_notified : (lists : Lists) (among : DueAmong) (room peer : ℕ) (asked : Watching) (os : List ObservedValue) → AreNotified lists among os → AreNotified lists among (changed room lists peer asked os)
 still_notified lists among room peer (watching.Registers observer) os notified = registered_notified lists among room observer os notified
-still_notified lists among room peer (watching.Leaves token) os notified = filtered_notified lists among (λ o. not (is_token peer token o)) os notified
+still_notified lists among room peer (watching.Cancels token) os notified = filtered_notified lists among (λ o. not (is_token peer token o)) os notified
 still_notified lists among room peer (watching.Rejects id) os notified = filtered_notified lists among (λ o. not (had_id peer id o)) os notified
 still_notified lists among room peer watching.Nothing os notified = notified
 

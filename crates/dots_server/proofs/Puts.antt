@@ -32,8 +32,8 @@ puts_gathered now g h bytes block failed = λ start written is.
     (subst (λ block. HasWritten start now g.failed block (written ++ bytes)) (sym block) (by_test g.failed start written is))
   where
     by_test : (b : Bool) (start : Sunk) (written : List ℕ) → HasWritten start now b g.block written → HasWritten start now b (g.block ++ bytes) (written ++ bytes)
-    by_test true start written is = (begun_longer start.held now.held written bytes is.0, is.1, is.2)
-    by_test false start written is = (more_owed start.held now.held written g.block bytes is.0, is.1)
+    by_test true start written is = (begun_longer start.written now.written written bytes is.0, is.1, is.2)
+    by_test false start written is = (more_owed start.written now.written written g.block bytes is.0, is.1)
 
 -- once the sink has failed nothing changes
 pub puts_failed : (now : Sunk) (g : Gathered) (bytes : List ℕ) → g.failed ≡ true → Puts now g now g bytes
@@ -42,7 +42,7 @@ puts_failed now g bytes failed = λ start written is.
     (still start written (subst (λ b. HasWritten start now b g.block written) failed is))
   where
     still : (start : Sunk) (written : List ℕ) → HasWritten start now true g.block written → HasWritten start now true g.block (written ++ bytes)
-    still start written is = (begun_longer start.held now.held written bytes is.0, is.1, is.2)
+    still start written is = (begun_longer start.written now.written written bytes is.0, is.1, is.2)
 
 rose_then : (start before now : ℕ) → before ≡ start → Rose before now → Rose start now
 rose_then start before now is rose = subst (λ n. Rose n now) is rose
@@ -51,22 +51,22 @@ later_then : (start before now : ℕ) → before ≡ start → before ≤ now �
 later_then start before now is later = subst (λ n. n ≤ now) is later
 
 -- the block was written
-pub puts_flushed : (a b : Sunk) (g h : Gathered) (block : List ℕ) → g.block ≡ block → g.failed ≡ false → h.block ≡ [] → h.failed ≡ false → Appends a.held b.held block → b.faults ≡ a.faults → Puts a g b h []
+pub puts_flushed : (a b : Sunk) (g h : Gathered) (block : List ℕ) → g.block ≡ block → g.failed ≡ false → h.block ≡ [] → h.failed ≡ false → Appends a.written b.written block → b.faults ≡ a.faults → Puts a g b h []
 puts_flushed a b g h block gathered well none still wrote same = λ start written is.
     let old : HasWritten start a false block written = subst (λ f. HasWritten start a f block written) well (subst (λ block. HasWritten start a g.failed block written) gathered is) in
     let new : HasWritten start b false [] (written ++ []) = (
-      subst (λ text. Owes start.held b.held text []) (sym (append-nil written)) (owes_less start.held a.held b.held written block [] (subst (Owes start.held a.held written) (sym (append-nil block)) old.0) wrote),
+      subst (λ text. Owes start.written b.written text []) (sym (append-nil written)) (owes_less start.written a.written b.written written block [] (subst (Owes start.written a.written written) (sym (append-nil block)) old.0) wrote),
       same ∙ old.1,
     ) in
     subst (λ f. HasWritten start b f h.block (written ++ [])) (sym still) (subst (λ block. HasWritten start b false block (written ++ [])) (sym none) new)
 
 -- or a beginning of it
-pub puts_unflushed : (a b : Sunk) (g h : Gathered) (block : List ℕ) → g.block ≡ block → g.failed ≡ false → h.failed ≡ true → AppendsBeginning a.held b.held block → a.faults ≤ b.faults → Rose a.faults b.faults
+pub puts_unflushed : (a b : Sunk) (g h : Gathered) (block : List ℕ) → g.block ≡ block → g.failed ≡ false → h.failed ≡ true → AppendsBeginning a.written b.written block → a.faults ≤ b.faults → Rose a.faults b.faults
     → Puts a g b h []
 puts_unflushed a b g h block gathered well fails wrote later rose = λ start written is.
     let old : HasWritten start a false block written = subst (λ f. HasWritten start a f block written) well (subst (λ block. HasWritten start a g.failed block written) gathered is) in
     let new : HasWritten start b true h.block (written ++ []) = (
-      subst (λ text. AppendsBeginning start.held b.held text) (sym (append-nil written)) (owes_lost start.held a.held b.held written block [] (subst (Owes start.held a.held written) (sym (append-nil block)) old.0) wrote),
+      subst (λ text. AppendsBeginning start.written b.written text) (sym (append-nil written)) (owes_lost start.written a.written b.written written block [] (subst (Owes start.written a.written written) (sym (append-nil block)) old.0) wrote),
       later_then start.faults a.faults b.faults old.1 later,
       rose_then start.faults a.faults b.faults old.1 rose,
     ) in
@@ -77,25 +77,25 @@ whole_owed a b c text bytes owes wrote =
     owes_less a b c (text ++ bytes) bytes [] (subst (λ rest. Owes a b (text ++ bytes) rest) (sym (append-nil bytes)) (more_owed a b text [] bytes owes)) wrote
 
 -- bytes were written where nothing was gathered
-pub puts_written : (a b : Sunk) (g : Gathered) (bytes : List ℕ) → g.failed ≡ false → g.block ≡ [] → Appends a.held b.held bytes → b.faults ≡ a.faults → Puts a g b g bytes
+pub puts_written : (a b : Sunk) (g : Gathered) (bytes : List ℕ) → g.failed ≡ false → g.block ≡ [] → Appends a.written b.written bytes → b.faults ≡ a.faults → Puts a g b g bytes
 puts_written a b g bytes failed none wrote same = λ start written is.
     let old : HasWritten start a false [] written = subst (λ f. HasWritten start a f [] written) failed (subst (λ block. HasWritten start a g.failed block written) none is) in
-    let new : HasWritten start b false [] (written ++ bytes) = (whole_owed start.held a.held b.held written bytes old.0 wrote, same ∙ old.1) in
+    let new : HasWritten start b false [] (written ++ bytes) = (whole_owed start.written a.written b.written written bytes old.0 wrote, same ∙ old.1) in
     subst (λ f. HasWritten start b f g.block (written ++ bytes)) (sym failed) (subst (λ block. HasWritten start b false block (written ++ bytes)) (sym none) new)
 
-pub puts_unwritten : (a b : Sunk) (g h : Gathered) (bytes : List ℕ) → g.failed ≡ false → g.block ≡ [] → h.failed ≡ true → AppendsBeginning a.held b.held bytes → a.faults ≤ b.faults → Rose a.faults b.faults → Puts a g b h bytes
+pub puts_unwritten : (a b : Sunk) (g h : Gathered) (bytes : List ℕ) → g.failed ≡ false → g.block ≡ [] → h.failed ≡ true → AppendsBeginning a.written b.written bytes → a.faults ≤ b.faults → Rose a.faults b.faults → Puts a g b h bytes
 puts_unwritten a b g h bytes failed none fails wrote later rose = λ start written is.
     let old : HasWritten start a false [] written = subst (λ f. HasWritten start a f [] written) failed (subst (λ block. HasWritten start a g.failed block written) none is) in
     let new : HasWritten start b true h.block (written ++ bytes) = (
-      owes_lost start.held a.held b.held (written ++ bytes) bytes [] (subst (λ rest. Owes start.held a.held (written ++ bytes) rest) (sym (append-nil bytes)) (more_owed start.held a.held written [] bytes old.0)) wrote,
+      owes_lost start.written a.written b.written (written ++ bytes) bytes [] (subst (λ rest. Owes start.written a.written (written ++ bytes) rest) (sym (append-nil bytes)) (more_owed start.written a.written written [] bytes old.0)) wrote,
       later_then start.faults a.faults b.faults old.1 later,
       rose_then start.faults a.faults b.faults old.1 rose,
     ) in
     subst (λ f. HasWritten start b f h.block (written ++ bytes)) (sym fails) new
 
 -- what was flushed last
-pub finished_well : (start now : Sunk) (block text : List ℕ) → block ≡ [] → HasWritten start now false block text → Appends start.held now.held text
-finished_well start now block text none is = owes_none start.held now.held text (subst (Owes start.held now.held text) none is.0)
+pub finished_well : (start now : Sunk) (block text : List ℕ) → block ≡ [] → HasWritten start now false block text → Appends start.written now.written text
+finished_well start now block text none is = owes_none start.written now.written text (subst (Owes start.written now.written text) none is.0)
 
 -- ---- loops
 

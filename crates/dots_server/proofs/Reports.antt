@@ -4,8 +4,8 @@ use Rattle.dots_host.proofs.WriteLemmas.{owes_all}
 use Rattle.filter_rows.specs.declared.rows.ScrubRow.{ScrubRow}
 use Rattle.filter_rows.specs.declared.rows.AclRow.{AclRow}
 use Rattle.filter_rows.specs.Fates.{fate_by_rows}
-use Rattle.filter_table.specs.TableRows.{HeldScrub, row_of_scrub, row_of_acl, is_active, active_rows}
-use Rattle.filter_table.specs.declared.held.HeldAcl.{HeldAcl}
+use Rattle.filter_table.specs.TableRows.{PlacedScrub, row_of_scrub, row_of_acl, is_active, active_rows}
+use Rattle.filter_table.specs.declared.placed.PlacedAcl.{PlacedAcl}
 use Rattle.dots_settings.specs.Settings.{SettingsValue}
 use Rattle.dots_settings.specs.Lookups.{prefixes_of}
 use Rattle.dots_history.specs.Rows.{plain_rows, acl_rows}
@@ -16,7 +16,7 @@ use Rattle.dots_server.specs.Lines.{active_lists}
 use Rattle.dots_server.specs.ServerValues.{ServerValue, Represents}
 
 -- what a table of these rows has to report
-abbrev pub lines_of : SettingsValue → List HeldScrub → List HeldAcl → List ℕ
+abbrev pub lines_of : SettingsValue → List PlacedScrub → List PlacedAcl → List ℕ
 lines_of settings scrubs acls =
     (flat_map (scrub_line settings) (active_rows scrubs) ++ flat_map (list_lines settings) (active_lists acls))
     ++ packet_lines (fate_by_rows (prefixes_of settings) (map row_of_scrub scrubs) (map row_of_acl acls)) 1 settings.packets
@@ -27,7 +27,7 @@ lines_by settings rows lists =
     (flat_map (scrub_line settings) (filter is_active rows) ++ flat_map (list_lines settings) (filter (λ row. row.active) lists))
     ++ packet_lines (fate_by_rows (prefixes_of settings) rows lists) 1 settings.packets
 
-pub report_is : (server : ServerValue) (settings : SettingsValue) (state : State) (scrubs : List HeldScrub) (acls : List HeldAcl) → Represents server settings state
+pub report_is : (server : ServerValue) (settings : SettingsValue) (state : State) (scrubs : List PlacedScrub) (acls : List PlacedAcl) → Represents server settings state
     → map row_of_scrub scrubs ≡ plain_rows state.time state.history → map row_of_acl acls ≡ acl_rows state.time state.history
     → lines_of server.settings scrubs acls ≡ report_of settings state
 report_is server settings state scrubs acls represents rows lists =
@@ -36,4 +36,4 @@ report_is server settings state scrubs acls represents rows lists =
     ∙ ap (λ held. lines_by settings (plain_rows state.time state.history) held) lists
 
 pub nothing_written : (now : Sunk) → HasWritten now now false [] []
-nothing_written now = (owes_all now.held [], refl)
+nothing_written now = (owes_all now.written [], refl)

@@ -38,11 +38,11 @@ use Rattle.dots_machine.specs.declared.exchange.Exchange.{Exchange}
 use Rattle.dots_machine.specs.declared.received.Received.{Received}
 use Rattle.dots_settings.specs.Lookups.{no_domain}
 use Rattle.dots_machine.specs.Exchanges.{exchange_in}
-use Rattle.dots_machine.specs.Domains.{session_domain, is_stranger}
+use Rattle.dots_machine.specs.Domains.{config_domain, is_stranger}
 use Rattle.dots_machine.specs.Requests.{IsReceived, received_as, unread, asks_nothing, meant}
 use Rattle.held_resources.specs.Tables.{config_now}
 use Rattle.dots_machine.specs.Replies.{configuration_reply, absent}
-use Rattle.dots_machine.specs.Deciding.{session_entry, config_view}
+use Rattle.dots_machine.specs.Deciding.{config_entry, config_view}
 use Rattle.dots_machine.specs.Sessions.{Configured, sid_of, is_held, configured_in, configured_by, beating_at}
 use Rattle.dots_machine.specs.Verdict.{Verdict}
 use Rattle.dots_machine.specs.declared.verdict.Verdict.TheVariants as verdict
@@ -162,7 +162,7 @@ module _ (server : ServerValue) (sessions : List PeerContact) where
   carried_still verdict.Silent can = tt
   carried_still (verdict.Reply reply) can = tt
   carried_still (verdict.LongReply reply) can = tt
-  carried_still (verdict.Shows x body) can = can
+  carried_still (verdict.Retrieves x body) can = can
   carried_still (verdict.Accept reply entry) can = acceptable_still entry can
 
 -- ---- what a peer has configured
@@ -243,7 +243,7 @@ of_no_mitigation _ is = absurd (false≢true is)
 module _ (server : ServerValue) (peer domain : ℕ) (x : Exchange) (reply : List ℕ) (made : Change) (may : may_configure (role_of server.settings peer) domain ≡ true)
     (is : is_configuration made ≡ true) (within : change_within made ≡ true) (short : length reply ≤ 64) where
   abbrev entry_configured : Entry
-  entry_configured = session_entry (time_of server.registry) peer domain x reply made
+  entry_configured = config_entry (time_of server.registry) peer domain x reply made
 
   owned : (settings : SettingsValue) (state : State) → Represents server settings state → is_own settings entry_configured ≡ true
   owned settings state represents =
@@ -315,12 +315,12 @@ module _ (old : ServerValue) (now : ℕ) (rows : List PeerContact) (time_is : no
 
 module _ (settings : SettingsValue) (entries : List Entry) (peer : ℕ) (own : list_all (is_own settings) entries ≡ true) where
   -- a stranger has none, and any other has it in its domain
-  pub configured_by_role : (who : Role) (found : Option Configured) → role_of settings peer ≡ who → ((domain : ℕ) → session_domain who ≡ Some domain → found ≡ config_of peer (held entries))
-      → (session_domain who ≡ None → found ≡ None) → found ≡ configured_by settings entries peer
-  configured_by_role role.Stranger found at there none = none refl ∙ sym (ap (λ who. option_and_then (λ domain. configured_in entries domain peer) (session_domain who)) at)
+  pub configured_by_role : (who : Role) (found : Option Configured) → role_of settings peer ≡ who → ((domain : ℕ) → config_domain who ≡ Some domain → found ≡ config_of peer (held entries))
+      → (config_domain who ≡ None → found ≡ None) → found ≡ configured_by settings entries peer
+  configured_by_role role.Stranger found at there none = none refl ∙ sym (ap (λ who. option_and_then (λ domain. configured_in entries domain peer) (config_domain who)) at)
   configured_by_role (role.Client d) found at there none =
       there d refl ∙ configured_alone settings entries peer d own (ap (λ who. may_configure who d) at ∙ eq-eqb d d refl)
-      ∙ sym (ap (λ who. option_and_then (λ domain. configured_in entries domain peer) (session_domain who)) at)
+      ∙ sym (ap (λ who. option_and_then (λ domain. configured_in entries domain peer) (config_domain who)) at)
   configured_by_role role.Gateway found at there none =
       there no_domain refl ∙ configured_alone settings entries peer no_domain own (ap (λ who. may_configure who no_domain) at ∙ refl)
-      ∙ sym (ap (λ who. option_and_then (λ domain. configured_in entries domain peer) (session_domain who)) at)
+      ∙ sym (ap (λ who. option_and_then (λ domain. configured_in entries domain peer) (config_domain who)) at)

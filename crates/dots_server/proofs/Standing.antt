@@ -50,13 +50,13 @@ can_answer server (fronts.Answered size close (answer.Accept reply entry)) can =
 -- what stands there by the registry stands there in each state that the server represents
 pub stands_there : (old server : ServerValue) → old ≡ server → (tables : RegistryValue) → tables ≡ old.registry → (conn : ℕ) (place : LinePlace) (at : IsAt conn place server.lines) (caller : Caller) (front : RestFront)
     → caller_of old.settings conn old.lines ≡ Some caller
-    → ((line : Line) (entries : List Entry) → line_at place old.lines ≡ Some line → registry.Represents tables entries → IsFront old.settings (time_of tables) entries caller line.held front)
+    → ((line : Line) (entries : List Entry) → line_at place old.lines ≡ Some line → registry.Represents tables entries → IsFront old.settings (time_of tables) entries caller line.buffered front)
     → (settings : SettingsValue) (state : State) → Represents server settings state → StandsThere settings conn state at.line front
 stands_there old server is tables tables_are conn place at caller front asks stands settings state represents =
     let of = subst (λ (s : ServerValue). Represents s settings state) (sym is) represents in (
       caller,
       subst (λ (lines : List PeerLines). caller_of settings conn lines ≡ Some caller) of.lines (subst (λ (s : SettingsValue). caller_of s conn old.lines ≡ Some caller) of.settings_are asks),
-      subst (λ t. IsFront settings t state.history caller at.line.held front) (ap time_of tables_are ∙ of.time_is)
-          (subst (λ (s : SettingsValue). IsFront s (time_of tables) state.history caller at.line.held front) of.settings_are
+      subst (λ t. IsFront settings t state.history caller at.line.buffered front) (ap time_of tables_are ∙ of.time_is)
+          (subst (λ (s : SettingsValue). IsFront s (time_of tables) state.history caller at.line.buffered front) of.settings_are
           (stands at.line state.history (ap (λ (s : ServerValue). line_at place s.lines) is ∙ at.there) (subst (λ (r : RegistryValue). registry.Represents r state.history) (sym tables_are) of.registry))),
     )

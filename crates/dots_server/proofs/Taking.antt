@@ -19,7 +19,7 @@ use Rattle.dots_laws.proofs.Composing.{kept_later}
 use Rattle.slot_journal.specs.declared.fault.JournalFault.{JournalFault}
 use Rattle.slot_journal.specs.declared.fault.JournalFault.TheVariants as fault_is
 use Rattle.slot_journal.specs.Refused.{Caused}
-use Rattle.slot_journal.specs.DiskEntries.{Holds}
+use Rattle.slot_journal.specs.DiskEntries.{HasEntries}
 use Rattle.slot_journal.specs.DiskEntries as journal
 use Rattle.dots_machine.specs.declared.ending.Stop.{Stop}
 use Rattle.dots_machine.specs.declared.ending.Stop.TheVariants as stop
@@ -27,7 +27,7 @@ use Rattle.dots_machine.specs.Machine.{State, later, restarted, receiving, StepI
 use Rattle.dots_machine.proofs.Hearing.{hears_time}
 use Rattle.dots_machine.proofs.Fronts.{front_time, fronts_time}
 use Rattle.dots_server.specs.ServerValues.{ServerValue, IsKept}
-use Rattle.dots_server.specs.Turning.{IsServed, HoldsTurn, Broke}
+use Rattle.dots_server.specs.Turning.{IsServed, HasTurn, Broke}
 use Rattle.dots_server.proofs.Turning.{keeps_itself, added_behind}
 use Rattle.dots_server.specs.Running.{StopsFor}
 use Rattle.dots_server.specs.Taking.{stored_of, Took}
@@ -35,18 +35,18 @@ use Rattle.dots_server.proofs.Looping.{kept_stored}
 
 module _ (settings : SettingsValue) (state : State) (at : ℕ) (old : ServerValue) (entries : List Entry) (kept : IsKept old settings state entries) where
   -- what the disk holds at a restart
-  restart_holds : (image : ℕ → ℕ) → Holds settings image entries → HoldsTurn settings state (restarted settings state at) image
-  restart_holds image holds = inl (record {
+  restart_has : (image : ℕ → ℕ) → HasEntries settings image entries → HasTurn settings state (restarted settings state at) image
+  restart_has image image_has = inl (record {
     entries = entries;
-    holds = holds;
+    image_has = image_has;
     calm = kept.represents.ledger.calm;
     kept = kept_later settings.limits.remembered (last_time state.history) (restarted settings state at).time entries state.history (omega arith) kept.rests;
   })
 
   module _ (media media_new : Option Media) (acts acts_new : Option (List Timed)) (silent : KeepsActs acts acts_new)
-      (moments : RestsWith media (journal.Represents old.journal settings entries) → Leaves media media_new (λ image. Holds settings image entries)) where
-    restart_writes : RestsWith media (journal.Represents old.journal settings entries) → Leaves media media_new (HoldsTurn settings state (restarted settings state at))
-    restart_writes rests = leaves_as media media_new (λ image. Holds settings image entries) (HoldsTurn settings state (restarted settings state at)) restart_holds (moments rests)
+      (moments : RestsWith media (journal.Represents old.journal settings entries) → Leaves media media_new (λ image. HasEntries settings image entries)) where
+    restart_writes : RestsWith media (journal.Represents old.journal settings entries) → Leaves media media_new (HasTurn settings state (restarted settings state at))
+    restart_writes rests = leaves_as media media_new (λ image. HasEntries settings image entries) (HasTurn settings state (restarted settings state at)) restart_has (moments rests)
 
     -- the server began anew, in a turn without sends
     pub restart_took : (now : ServerValue) (moment : ℕ) → IsMoment moment media_new → IsKept now settings (restarted settings state at) entries → RestsWith media_new (journal.Represents now.journal settings entries)

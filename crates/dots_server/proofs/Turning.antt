@@ -10,12 +10,12 @@ use Rattle.dots_disk.specs.Beside.{KeepsActs}
 use Rattle.slot_store.proofs.Steps.{begins, leaves_as}
 use Rattle.dots_settings.specs.Settings.{SettingsValue}
 use Rattle.dots_history.specs.declared.entry.Entry.{Entry}
-use Rattle.slot_journal.specs.Kept.{HoldsKept}
-use Rattle.dots_ledger.specs.Crashes.{HoldsEither}
+use Rattle.slot_journal.specs.Kept.{HasKept}
+use Rattle.dots_ledger.specs.Crashes.{HasEither}
 use Rattle.dots_machine.specs.Machine.{State, with_entry}
 use Rattle.dots_notices.specs.Notifying.{SentTo}
 use Rattle.dots_notices.proofs.Sends.{sent_then, sent_none, keeps_then}
-use Rattle.dots_server.specs.Turning.{HoldsTurn, Turned, TurnedTo, Wrote, Broke}
+use Rattle.dots_server.specs.Turning.{HasTurn, Turned, TurnedTo, Wrote, Broke}
 
 -- where nothing was written the disk is as it was, at each moment of none
 pub keeps_itself : (media : Option Media) → KeepsMedia media media
@@ -44,7 +44,7 @@ module _ (settings : SettingsValue) (old new : State) (outs : List OwnedOut) (Be
     moment = moment;
     is_moment = at;
     gives = gives;
-    writes = λ rests. begins media (HoldsTurn settings old new);
+    writes = λ rests. begins media (HasTurn settings old new);
     rests = λ rests. rests;
     sends = sends;
   }
@@ -56,7 +56,7 @@ module _ (settings : SettingsValue) (old new : State) (outs : List OwnedOut) (Be
     moment = moment;
     is_moment = at;
     gives = gives;
-    writes = λ rests. begins media (HoldsTurn settings old new);
+    writes = λ rests. begins media (HasTurn settings old new);
     rests = λ rests. rests;
     sends = sends;
   }
@@ -95,33 +95,33 @@ told_behind settings old left new outs more Before After media there media_new f
   is_moment = turned.is_moment;
   gives = added_weaker acts acts_new (SentTo turned.moment last (outs ++ more)) (Gives turned.moment (outs ++ more)) (sent_then acts told acts_new turned.moment first last outs more turned.gives sent)
       (λ acts is. is.0);
-  writes = λ rests. leaves_as media turned.between (HoldsTurn settings old left) (HoldsTurn settings old new) (λ image holds. same_turn image holds) (turned.writes rests);
+  writes = λ rests. leaves_as media turned.between (HasTurn settings old left) (HasTurn settings old new) (λ image holds. same_turn image holds) (turned.writes rests);
   rests = turned.rests;
   sends = keeps_then turned.between there media_new turned.sends keeps;
 }
   where
-    same_turn : (image : ℕ → ℕ) → HoldsTurn settings old left image → HoldsTurn settings old new image
-    same_turn image (inl holds) = inl (subst (λ t. HoldsKept settings settings.limits.remembered t old.history image) (sym time) holds)
+    same_turn : (image : ℕ → ℕ) → HasTurn settings old left image → HasTurn settings old new image
+    same_turn image (inl holds) = inl (subst (λ t. HasKept settings settings.limits.remembered t old.history image) (sym time) holds)
     same_turn image (inr holds) =
-        inr (subst (λ t. HoldsKept settings settings.limits.remembered t new.history image) (sym time)
-        (subst (λ es. HoldsKept settings settings.limits.remembered left.time es image) (sym history) holds))
+        inr (subst (λ t. HasKept settings settings.limits.remembered t new.history image) (sym time)
+        (subst (λ es. HasKept settings settings.limits.remembered left.time es image) (sym history) holds))
 
 -- what a ledger leaves while it accepts an entry at the time of the state
 pub accepting : (settings : SettingsValue) (n t : ℕ) (state : State) (entry : Entry) (old new : Option Media) → n ≡ settings.limits.remembered → t ≡ state.time → entry.time ≡ state.time
-    → Leaves old new (HoldsEither settings n t state.history entry) → Leaves old new (HoldsTurn settings state (with_entry state entry))
+    → Leaves old new (HasEither settings n t state.history entry) → Leaves old new (HasTurn settings state (with_entry state entry))
 accepting settings n t state entry old new same at now =
-    leaves_as old new (HoldsEither settings n t state.history entry) (HoldsTurn settings state (with_entry state entry)) by_image
+    leaves_as old new (HasEither settings n t state.history entry) (HasTurn settings state (with_entry state entry)) by_image
   where
-    by_image : (image : ℕ → ℕ) → HoldsEither settings n t state.history entry image → HoldsTurn settings state (with_entry state entry) image
+    by_image : (image : ℕ → ℕ) → HasEither settings n t state.history entry image → HasTurn settings state (with_entry state entry) image
     by_image image (inl holds) =
-        inl (subst (λ k. HoldsKept settings k state.time state.history image) same (subst (λ u. HoldsKept settings n u state.history image) at holds))
+        inl (subst (λ k. HasKept settings k state.time state.history image) same (subst (λ u. HasKept settings n u state.history image) at holds))
     by_image image (inr holds) =
-        inr (subst (λ k. HoldsKept settings k state.time (state.history ++ entry ∷ []) image) same (subst (λ u. HoldsKept settings n u (state.history ++ entry ∷ []) image) now holds))
+        inr (subst (λ k. HasKept settings k state.time (state.history ++ entry ∷ []) image) same (subst (λ u. HasKept settings n u (state.history ++ entry ∷ []) image) now holds))
 
 -- from another state with the same history
 module _ (settings : SettingsValue) (from old new : State) (same : from.history ≡ old.history) (Before : (ℕ → ℕ) → Type 0) (media media_new : Option Media) (acts acts_new : Option (List Timed)) where
-  same_start : (image : ℕ → ℕ) → HoldsTurn settings from new image → HoldsTurn settings old new image
-  same_start image (inl holds) = inl (subst (λ es. HoldsKept settings settings.limits.remembered new.time es image) same holds)
+  same_start : (image : ℕ → ℕ) → HasTurn settings from new image → HasTurn settings old new image
+  same_start image (inl holds) = inl (subst (λ es. HasKept settings settings.limits.remembered new.time es image) same holds)
   same_start image (inr holds) = inr holds
 
   pub turned_from : (outs : List OwnedOut) (After : (ℕ → ℕ) → Type 0) → Turned settings from new outs Before After media media_new acts acts_new
@@ -131,7 +131,7 @@ module _ (settings : SettingsValue) (from old new : State) (same : from.history 
     moment = turned.moment;
     is_moment = turned.is_moment;
     gives = turned.gives;
-    writes = λ rests. leaves_as media turned.between (HoldsTurn settings from new) (HoldsTurn settings old new) same_start (turned.writes rests);
+    writes = λ rests. leaves_as media turned.between (HasTurn settings from new) (HasTurn settings old new) same_start (turned.writes rests);
     rests = turned.rests;
     sends = turned.sends;
   }
@@ -139,6 +139,6 @@ module _ (settings : SettingsValue) (from old new : State) (same : from.history 
   pub broke_from : Broke settings from new Before media media_new acts acts_new → Broke settings old new Before media media_new acts acts_new
   broke_from broke = record {
     silent = broke.silent;
-    writes = λ rests. leaves_as media media_new (HoldsTurn settings from new) (HoldsTurn settings old new) same_start (broke.writes rests);
+    writes = λ rests. leaves_as media media_new (HasTurn settings from new) (HasTurn settings old new) same_start (broke.writes rests);
     own = broke.own;
   }

@@ -16,7 +16,7 @@ use Rattle.dots_settings.specs.Settings.{SettingsValue}
 use Rattle.dots_history.specs.declared.entry.Entry.{Entry}
 use Rattle.dots_laws.specs.Fits.{last_time}
 use Rattle.dots_laws.proofs.Composing.{kept_later}
-use Rattle.slot_journal.specs.Kept.{HoldsKept}
+use Rattle.slot_journal.specs.Kept.{HasKept}
 use Rattle.dots_machine.specs.declared.ending.Stop.{Stop}
 use Rattle.dots_machine.specs.declared.ending.Stop.TheVariants as stop
 use Rattle.slot_journal.specs.declared.fault.JournalFault.{JournalFault}
@@ -25,10 +25,10 @@ use Rattle.slot_journal.specs.Untaken.{IsFailure}
 use Rattle.dots_machine.specs.Endings.{Stops, EndsBehind, IsSettled, IsFound}
 use Rattle.dots_machine.specs.Machine.{State, restarted, Step, StepInto}
 use Rattle.dots_machine.specs.Handlings.{AreSends}
-use Rattle.dots_machine.specs.Surviving.{Story, told_by, past_of, NoneBefore, MeansAt}
+use Rattle.dots_machine.specs.Surviving.{Story, shown_by, past_of, NoneBefore, MeansAt}
 use Rattle.dots_machine.proofs.Surviving.{IsAt, ran_whole, story_length, story_then, gives_late, none_then, none_earlier, leaves_at_none, leaves_at_past, leaves_past, keeps_past, rests_still, event_on, turn_on, broken_on, step_timely}
 use Rattle.dots_server.specs.Turning.{Turned, Broke, Stored, LiesOn, IsStored, Grows, last_left, Chained}
-use Rattle.dots_server.proofs.Beginning.{represents_holds}
+use Rattle.dots_server.proofs.Beginning.{represents_has}
 use Rattle.dots_server.proofs.Turning.{none_added}
 use Rattle.dots_server.specs.Taking.{stored_of, Took, BrokeOff}
 use Rattle.dots_server.specs.ServerValues.{ServerValue, IsKept}
@@ -87,7 +87,7 @@ outs_then : (xs ys : List (State × OwnedOut)) → outs_of (xs ++ ys) ≡ outs_o
 outs_then [] ys = refl
 outs_then (x ∷ xs) ys = ap (λ zs. x.1 ∷ zs) (outs_then xs ys)
 
-told_then : (xs ys : List (State × OwnedOut)) → told_by (xs ++ ys) ≡ told_by xs ++ told_by ys
+told_then : (xs ys : List (State × OwnedOut)) → shown_by (xs ++ ys) ≡ shown_by xs ++ shown_by ys
 told_then [] ys = refl
 told_then (x ∷ xs) ys = ap (λ zs. x.0 ∷ zs) (told_then xs ys)
 
@@ -115,26 +115,26 @@ module _ (settings : SettingsValue) where
   abbrev owing : State → List (State × OwnedOut) → Owing State
   owing state owed = record { last = state; owed = owed }
 
-  abbrev HoldsFrom : ℕ → List Entry → (ℕ → ℕ) → Type 0
-  HoldsFrom t history image = HoldsKept settings settings.limits.remembered t history image
+  abbrev HasFrom : ℕ → List Entry → (ℕ → ℕ) → Type 0
+  HasFrom t history image = HasKept settings settings.limits.remembered t history image
 
   abbrev timed_at : ℕ → Event → ℕ → Timed
   timed_at moment what at = record { moment = moment; act = took what at }
 
   -- ---- what lies on the disk
 
-  stored_holds : (time t : ℕ) (history : List Entry) (stored : Stored) (image : ℕ → ℕ) → IsStored settings time history stored.entries → last_time history ≤ t → LiesOn settings stored image → HoldsFrom t history image
-  stored_holds time t history stored image is le lies = record {
+  stored_has : (time t : ℕ) (history : List Entry) (stored : Stored) (image : ℕ → ℕ) → IsStored settings time history stored.entries → last_time history ≤ t → LiesOn settings stored image → HasFrom t history image
+  stored_has time t history stored image is le lies = record {
     entries = stored.entries;
-    holds = represents_holds stored.journal settings stored.entries image lies;
+    image_has = represents_has stored.journal settings stored.entries image lies;
     calm = is.calm;
     kept = kept_later settings.limits.remembered (last_time history) t stored.entries history le is.kept;
   }
 
   pub stored_rests : (time t : ℕ) (history : List Entry) (stored : Stored) (media : Option Media) → IsStored settings time history stored.entries → last_time history ≤ t
-      → RestsWith media (LiesOn settings stored) → RestsWith media (HoldsFrom t history)
+      → RestsWith media (LiesOn settings stored) → RestsWith media (HasFrom t history)
   stored_rests time t history stored media is le rests =
-      rests_as media (LiesOn settings stored) (HoldsFrom t history) (λ image lies. stored_holds time t history stored image is le lies) rests
+      rests_as media (LiesOn settings stored) (HasFrom t history) (λ image lies. stored_has time t history stored image is le lies) rests
 
   -- ---- the turns of an event
 
@@ -144,7 +144,7 @@ module _ (settings : SettingsValue) where
       pub sends : AreSends (outs_of (owed_in turns)) more
       pub late : RestsWith media (LiesOn settings stored) → NoneBefore (past_of media) more
       pub on : RestsWith media (LiesOn settings stored) → (acts : List Timed) (trace : List State) → IsAt settings start old.history time first media acts trace
-          → IsAt settings start (last_left old turns).history time first media_new (acts ++ more) (trace ++ told_by (owed_in turns))
+          → IsAt settings start (last_left old turns).history time first media_new (acts ++ more) (trace ++ shown_by (owed_in turns))
 
     none_carried : (old : State) (stored : Stored) (media : Option Media) → Carried old [] stored media media []
     none_carried old stored media = record {
@@ -169,11 +169,11 @@ module _ (settings : SettingsValue) where
         moment_is : past_of turned.between ≡ turned.moment
         moment_is = moment_past turned.moment turned.between (LiesOn settings between) rests_c turned.is_moment
 
-        writes : Leaves a turned.between (λ image. HoldsFrom time old.history image ⊎ HoldsFrom time turn.left.history image)
-        writes = subst (λ t. Leaves a turned.between (λ image. HoldsFrom t old.history image ⊎ HoldsFrom t turn.left.history image)) time_is (turned.writes rests)
+        writes : Leaves a turned.between (λ image. HasFrom time old.history image ⊎ HasFrom time turn.left.history image)
+        writes = subst (λ t. Leaves a turned.between (λ image. HasFrom t old.history image ⊎ HasFrom t turn.left.history image)) time_is (turned.writes rests)
 
         before_written : past_of a ≤ past_of turned.between
-        before_written = leaves_past a turned.between (LiesOn settings stored) (λ image. HoldsFrom time old.history image ⊎ HoldsFrom time turn.left.history image) rests writes
+        before_written = leaves_past a turned.between (LiesOn settings stored) (λ image. HasFrom time old.history image ⊎ HasFrom time turn.left.history image) rests writes
 
         before_there : past_of a ≤ past_of there
         before_there =
@@ -198,11 +198,11 @@ module _ (settings : SettingsValue) where
             (stored_rests time time old.history stored a is_old is_old.timely rests) (writes rests) there
             (stored_rests time time turn.left.history between turned.between is_new is_new.timely (rests_c rests)) turned.sends in
             subst (λ ts. IsAt settings start (last_left turn.left turns).history time first d (acts ++ (front ++ back)) ts)
-            (append_assoc trace (told_by (each_telling turn.left turn.sends)) (told_by (owed_in turns))
+            (append_assoc trace (shown_by (each_telling turn.left turn.sends)) (shown_by (owed_in turns))
             ∙ ap (λ ts. trace ++ ts) (sym (told_then (each_telling turn.left turn.sends) (owed_in turns))))
-            (subst (λ es. IsAt settings start (last_left turn.left turns).history time first d es ((trace ++ told_by (each_telling turn.left turn.sends)) ++ told_by (owed_in turns)))
+            (subst (λ es. IsAt settings start (last_left turn.left turns).history time first d es ((trace ++ shown_by (each_telling turn.left turn.sends)) ++ shown_by (owed_in turns)))
             (append_assoc acts front back)
-            (rest.on (rests_there rests) (acts ++ front) (trace ++ told_by (each_telling turn.left turn.sends)) here));
+            (rest.on (rests_there rests) (acts ++ front) (trace ++ shown_by (each_telling turn.left turn.sends)) here));
       }
 
     pub turns_carried : (old : State) (turns : List (Turn State)) (stored after : Stored) (a d : Option Media) (xs ys : Option (List Timed)) → IsStored settings time old.history stored.entries
@@ -243,20 +243,20 @@ module _ (settings : SettingsValue) where
   -- ---- stories
 
   -- the sends that are owed
-  sends_story : (state : State) (owed : List (State × OwnedOut)) (acts : List Timed) → AreSends (outs_of owed) acts → Story settings (owing state owed) acts (told_by owed) (resting state)
+  sends_story : (state : State) (owed : List (State × OwnedOut)) (acts : List Timed) → AreSends (outs_of owed) acts → Story settings (owing state owed) acts (shown_by owed) (resting state)
   sends_story state [] [] are = refl
   sends_story state [] (timed ∷ acts) are = absurd are
   sends_story state (send ∷ owed) [] are = absurd are
   sends_story state (send ∷ owed) (timed ∷ acts) are = told timed.act are.0 (sends_story state owed acts are.1)
     where
-      told : (act : WireAct) → IsSend send.1 act → Story settings (owing state owed) acts (told_by owed) (resting state)
-          → Story settings (owing state (send ∷ owed)) ((record { moment = timed.moment; act = act }) ∷ acts) (send.0 ∷ told_by owed) (resting state)
+      told : (act : WireAct) → IsSend send.1 act → Story settings (owing state owed) acts (shown_by owed) (resting state)
+          → Story settings (owing state (send ∷ owed)) ((record { moment = timed.moment; act = act }) ∷ acts) (send.0 ∷ shown_by owed) (resting state)
       told (took e at) s rest = absurd s
       told (gave o d) s rest = (owing state owed, (ap (λ x. (send.0, x) ∷ owed) (sym s), refl), tt, rest)
 
   -- an event that is taken, and its sends
   event_story : (old new : State) (moment : ℕ) (what : Event) (at : ℕ) (owed : List (State × OwnedOut)) (acts : List Timed) → Step settings old what at owed new → AreSends (outs_of owed) acts
-      → Story settings (resting old) (timed_at moment what at ∷ acts) (new ∷ told_by owed) (resting new)
+      → Story settings (resting old) (timed_at moment what at ∷ acts) (new ∷ shown_by owed) (resting new)
   event_story old new moment what at owed acts s are = (owing new owed, (refl, s), refl, sends_story new owed acts are)
 
   -- ---- runs
@@ -340,27 +340,27 @@ module _ (settings : SettingsValue) where
 
         -- how the run stands behind them
         pub stands_behind : (r : Rests) (front more : List Timed) → SoFar front → Turning more
-            → IsAt settings from (last_left old turns).history new.time media d (with_more front more) (trace ++ new ∷ told_by (owed_in turns))
+            → IsAt settings from (last_left old turns).history new.time media d (with_more front more) (trace ++ new ∷ shown_by (owed_in turns))
         stands_behind r front more l c =
-            joined front more (told_by (owed_in turns)) (last_left old turns).history d (c.on (rests_b r) (front ++ event_taken ∷ []) (trace ++ new ∷ []) (taken_here r front l))
+            joined front more (shown_by (owed_in turns)) (last_left old turns).history d (c.on (rests_b r) (front ++ event_taken ∷ []) (trace ++ new ∷ []) (taken_here r front l))
 
         pub goes_behind : (front more : List Timed) → SoFar front → Turning more → IsNoEnd (took what at) → GoOn (with_more front more)
         goes_behind front more l c goes = go_on_then front (event_taken ∷ more) l.0.goes_on (goes, sends_go_on (outs_of (owed_in turns)) more c.sends)
 
         -- all of them, and the event is over
         module _ (step : Step settings old what at (owed_in turns) new) (left : new.history ≡ (last_left old turns).history) where
-          story_behind : (front more : List Timed) → SoFar front → Turning more → Story settings (resting from) (with_more front more) (trace ++ new ∷ told_by (owed_in turns)) (resting new)
+          story_behind : (front more : List Timed) → SoFar front → Turning more → Story settings (resting from) (with_more front more) (trace ++ new ∷ shown_by (owed_in turns)) (resting new)
           story_behind front more l c =
-              story_then settings (resting from) (resting old) (resting new) front (event_taken ∷ more) trace (new ∷ told_by (owed_in turns)) l.0.story (event_story old new moment what at (owed_in turns) more step c.sends)
+              story_then settings (resting from) (resting old) (resting new) front (event_taken ∷ more) trace (new ∷ shown_by (owed_in turns)) l.0.story (event_story old new moment what at (owed_in turns) more step c.sends)
 
-          stands_there : (r : Rests) (front more : List Timed) → SoFar front → Turning more → IsAt settings from new.history new.time media d (with_more front more) (trace ++ new ∷ told_by (owed_in turns))
+          stands_there : (r : Rests) (front more : List Timed) → SoFar front → Turning more → IsAt settings from new.history new.time media d (with_more front more) (trace ++ new ∷ shown_by (owed_in turns))
           stands_there r front more l c =
-              subst (λ es. IsAt settings from es new.time media d (with_more front more) (trace ++ new ∷ told_by (owed_in turns))) (sym left) (stands_behind r front more l c)
+              subst (λ es. IsAt settings from es new.time media d (with_more front more) (trace ++ new ∷ shown_by (owed_in turns))) (sym left) (stands_behind r front more l c)
 
           pub took_on : (xs ys : Option (List Timed)) (now : ℕ) → IsNoEnd (took what at) → Added xs ys SoFar → Adds ys moment zs now (took what at)
-              → Added xs ws (GoesOnTo settings from new (n + 1) media d Rests (trace ++ new ∷ told_by (owed_in turns)))
+              → Added xs ws (GoesOnTo settings from new (n + 1) media d Rests (trace ++ new ∷ shown_by (owed_in turns)))
           took_on xs ys now goes lives took_it =
-              event_on_acts xs ys now (GoesOnTo settings from new (n + 1) media d Rests (trace ++ new ∷ told_by (owed_in turns))) lives took_it (λ front more l c.
+              event_on_acts xs ys now (GoesOnTo settings from new (n + 1) media d Rests (trace ++ new ∷ shown_by (owed_in turns))) lives took_it (λ front more l c.
               let count = l.0.count in (
                 record {
                   story = story_behind front more l c;
@@ -377,10 +377,10 @@ module _ (settings : SettingsValue) where
           -- and the run ends with it
           pub ended_on : (how : Stop) (xs ys : Option (List Timed)) (now : ℕ) → EndsBehind how settings new [] (resting new) []
               → ((front more : List Timed) → GoOn front → AreSends (outs_of (owed_in turns)) more → Stops how (with_more front more)) → Added xs ys SoFar → Adds ys moment zs now (took what at)
-              → Added xs ws (HasCome settings from how media d Rests (trace ++ new ∷ told_by (owed_in turns)) (resting new))
+              → Added xs ws (HasCome settings from how media d Rests (trace ++ new ∷ shown_by (owed_in turns)) (resting new))
           ended_on how xs ys now ends says lives took_it =
-              event_on_acts xs ys now (HasCome settings from how media d Rests (trace ++ new ∷ told_by (owed_in turns)) (resting new)) lives took_it (λ front more l c. (
-                ran_whole settings from new how (with_more front more) (trace ++ new ∷ told_by (owed_in turns)) ends (story_behind front more l c) (says front more l.0.goes_on c.sends),
+              event_on_acts xs ys now (HasCome settings from how media d Rests (trace ++ new ∷ shown_by (owed_in turns)) (resting new)) lives took_it (λ front more l c. (
+                ran_whole settings from new how (with_more front more) (trace ++ new ∷ shown_by (owed_in turns)) ends (story_behind front more l c) (says front more l.0.goes_on c.sends),
                 λ r. (behind_late r front more l (c.late (rests_b r)), (stands_there r front more l c).survives),
               ))
 
@@ -388,9 +388,9 @@ module _ (settings : SettingsValue) where
     pub broke_on : (turns : List (Turn State)) (last : Turn State) (after : Stored) (there c : Option Media) (xs ys zs ws vs : Option (List Timed)) (now : ℕ) (late : last_time old.history ≤ last.left.time)
         → StepInto settings old what at turns last → Chained settings last.left.time old stored turns after b there zs ws → Grows (last_left old turns).history last.left.history
         → Broke settings (last_left old turns) last.left (LiesOn settings after) there c ws vs → IsNoEnd (took what at) → Added xs ys SoFar → Adds ys moment zs now (took what at)
-        → Added xs vs (HasCome settings from stop.DiskFailed media c Rests (trace ++ last.left ∷ told_by (owed_in turns)) (owing last.left (each_telling last.left last.sends)))
+        → Added xs vs (HasCome settings from stop.DiskFailed media c Rests (trace ++ last.left ∷ shown_by (owed_in turns)) (owing last.left (each_telling last.left last.sends)))
     broke_on turns last after there c xs ys zs ws vs now late into chained grows broke goes lives took_it =
-        let told : List State = trace ++ last.left ∷ told_by (owed_in turns) in
+        let told : List State = trace ++ last.left ∷ shown_by (owed_in turns) in
         let Q : List Timed → Type 0 = HasCome settings from stop.DiskFailed media c Rests told (owing last.left (each_telling last.left last.sends)) in
         let stored_there : IsStored settings last.left.time (last_left old turns).history after.entries =
         chain_stored last.left.time old turns stored after b there zs ws (is_now last.left late turns after there zs ws chained) chained in
@@ -401,7 +401,7 @@ module _ (settings : SettingsValue) where
             behind = event_taken ∷ more;
             acts_are = refl;
             told = trace;
-            told_behind = last.left ∷ told_by (owed_in turns);
+            told_behind = last.left ∷ shown_by (owed_in turns);
             trace_is = refl;
             state = old;
             run = l.0.story;
@@ -478,17 +478,17 @@ pub record LivesOn (settings : SettingsValue) (start : State) (server : ServerVa
   pub trace : List State
   pub told : Added acts acts_now (GoesOnTo settings start state n first media Rests trace)
 
-pub lives_first : (settings : SettingsValue) (start : State) (server : ServerValue) (held : List Entry) (media : Option Media) (acts : Option (List Timed)) → IsKept server settings start held
-    → LivesOn settings start server 0 (RestsWith media (LiesOn settings (stored_of server held))) media media acts acts
-lives_first settings start server held media acts kept = record {
+pub lives_first : (settings : SettingsValue) (start : State) (server : ServerValue) (stored : List Entry) (media : Option Media) (acts : Option (List Timed)) → IsKept server settings start stored
+    → LivesOn settings start server 0 (RestsWith media (LiesOn settings (stored_of server stored))) media media acts acts
+lives_first settings start server stored media acts kept = record {
   state = start;
-  few = held;
+  few = stored;
   kept = kept;
   rests = λ rests. rests;
   grown = ([], sym (append-nil start.history));
   trace = [];
-  told = added_none acts _ (begins settings start media (RestsWith media (LiesOn settings (stored_of server held)))
-      (λ rests. rests_as media (LiesOn settings (stored_of server held)) (λ image. Unit {0}) (λ image lies. tt) rests));
+  told = added_none acts _ (begins settings start media (RestsWith media (LiesOn settings (stored_of server stored)))
+      (λ rests. rests_as media (LiesOn settings (stored_of server stored)) (λ image. Unit {0}) (λ image lies. tt) rests));
 }
 
 module _ (settings : SettingsValue) (start : State) (server : ServerValue) (n moment at : ℕ) (what : Event) (Rests : Type 0) (first a b : Option Media) (xs ys zs : Option (List Timed)) (now : ℕ)
@@ -513,7 +513,7 @@ module _ (settings : SettingsValue) (start : State) (server : ServerValue) (n mo
         rests = λ r. chain_rests settings done.new.time lives.state done.turns now_stored (stored_of next done.few) b d zs ws (rests_came r) done.chained;
         grown = grows_then start.history lives.state.history done.new.history lives.grown
             (subst (λ es. Grows lives.state.history es) (sym done.left) (chain_grows settings done.new.time lives.state done.turns now_stored (stored_of next done.few) b d zs ws done.chained));
-        trace = lives.trace ++ done.new ∷ told_by (owed_in done.turns);
+        trace = lives.trace ++ done.new ∷ shown_by (owed_in done.turns);
         told = took_on settings start lives.state n moment at what lives.trace first a b now_stored Rests is_stored here lives.rests keeps done.new late done.turns (stored_of next done.few) d zs ws done.chained done.step done.left
             xs ys now goes lives.told took_it;
       }
@@ -537,7 +537,7 @@ module _ (settings : SettingsValue) (start : State) (server : ServerValue) (n mo
       → Came settings start stop.DiskFailed first c Rests xs vs (record { last = over.last.left; owed = each_telling over.last.left over.last.sends })
   comes_to_failure c vs goes over = record {
     settled = tt;
-    trace = lives.trace ++ over.last.left ∷ told_by (owed_in over.turns);
+    trace = lives.trace ++ over.last.left ∷ shown_by (owed_in over.turns);
     told = broke_on settings start lives.state n moment at what lives.trace first a b now_stored Rests is_stored here lives.rests keeps over.turns over.last over.stored over.there c xs ys zs over.told vs now
         (into_timely settings lives.state what at over.turns over.last is_stored.timely over.into) over.into over.chained over.grows over.broke goes lives.told took_it;
     grows = grows_then start.history (last_left lives.state over.turns).history over.last.left.history

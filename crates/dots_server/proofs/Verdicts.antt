@@ -24,7 +24,7 @@ use Rattle.dots_machine.specs.declared.exchange.Exchange.{Exchange}
 use Rattle.dots_machine.specs.declared.mitigation_request.MitigationRequest.{MitigationRequest}
 use Rattle.dots_machine.specs.Verdict.{Verdict}
 use Rattle.dots_machine.specs.declared.verdict.Verdict.TheVariants as verdict
-use Rattle.dots_machine.specs.Domains.{is_gateway, session_domain, is_stranger}
+use Rattle.dots_machine.specs.Domains.{is_gateway, config_domain, is_stranger}
 use Rattle.target_rules.specs.Targets.{scope_fault}
 use Rattle.dots_machine.specs.Replies.{bad_target}
 use Rattle.dots_machine.specs.MessageRepeats.{Sent, unless_repeated}
@@ -162,7 +162,7 @@ module _ (server : ServerValue) (settings : SettingsValue) (state : State) (a : 
 
 -- ---- on a request for the configuration of a session
 module _ (settings : SettingsValue) (peer : ℕ) (x : Exchange) (own : Option ℕ) (own_is : role_of settings peer ≡ role_with own) (domain : ℕ)
-    (there : session_domain (role_with own) ≡ Some domain) (decide : ℕ → Verdict) where
+    (there : config_domain (role_with own) ≡ Some domain) (decide : ℕ → Verdict) where
   -- it is decided in the domain of the session
-  pub in_session : decide domain ≡ in_domain x (session_domain (role_of settings peer)) decide
-  in_session = sym (ap (λ d. in_domain x d decide) (ap session_domain own_is ∙ there))
+  pub in_session : decide domain ≡ in_domain x (config_domain (role_of settings peer)) decide
+  in_session = sym (ap (λ d. in_domain x d decide) (ap config_domain own_is ∙ there))

@@ -37,8 +37,8 @@ use Rattle.dots_machine.specs.declared.verdict.Verdict.TheVariants as verdict
 use Rattle.dots_machine.specs.Domains.{domain_for}
 use Rattle.dots_machine.specs.Facts.{Facts}
 use Rattle.dots_machine.specs.Mitigations.{is_wanted, client_for, is_taken, get_reply, get_by, get_answer}
-use Rattle.dots_machine.specs.Observing.{seen_among, views_at, bodies_at, watching_of, number_of, is_shown, is_unavailable, observing, code_of}
-use Rattle.dots_machine.specs.Replies.{unavailable, showing, shown_body}
+use Rattle.dots_machine.specs.Observing.{seen_among, views_at, bodies_at, watching_of, number_of, is_retrieved, is_unavailable, observing, code_of}
+use Rattle.dots_machine.specs.Replies.{unavailable, showing, retrieved_body}
 use Rattle.dots_machine.specs.Machine.{State, sends_of, after, seen_in, dismissal_verdict}
 use Rattle.dots_machine.proofs.Observing.{known_leaves}
 use Rattle.coap_exchange.specs.Rings.{RingValue, is_ring_of}
@@ -50,7 +50,7 @@ use Rattle.dots_history.specs.Entries.{is_signal, is_configuration, is_loss}
 use Rattle.dots_laws.specs.Calm.{may_act, is_of_settings}
 use Rattle.dots_registry.specs.RegistryValues.{pair_of}
 use Rattle.dots_registry.proofs.Rings.{own_has_ring}
-use Rattle.dots_server.specs.declared.deciding.Outcome.{Outcome}
+use Rattle.dots_server.specs.declared.deciding.Decision.{Decision}
 use Rattle.dots_server.specs.Observing.{asked_from, leaving, rejecting, spoken, changed, Does, MayObserve, views_by, bodies_of}
 use Rattle.dots_server.specs.ServerValues.{ServerValue, Represents, IsServing, CanCarryOut}
 
@@ -59,21 +59,21 @@ pub spoken_sends : (number : Option ℕ) (v : Verdict) (peer : ℕ) → sends_of
 spoken_sends number verdict.Silent peer = refl
 spoken_sends number (verdict.Reply reply) peer = refl
 spoken_sends number (verdict.LongReply reply) peer = refl
-spoken_sends number (verdict.Shows x body) peer = refl
+spoken_sends number (verdict.Retrieves x body) peer = refl
 spoken_sends number (verdict.Accept reply entry) peer = refl
 
 pub spoken_after : (number : Option ℕ) (v : Verdict) (state : State) → after (spoken number v) state ≡ after v state
 spoken_after number verdict.Silent state = refl
 spoken_after number (verdict.Reply reply) state = refl
 spoken_after number (verdict.LongReply reply) state = refl
-spoken_after number (verdict.Shows x body) state = refl
+spoken_after number (verdict.Retrieves x body) state = refl
 spoken_after number (verdict.Accept reply entry) state = refl
 
 pub spoken_accepts : (number : Option ℕ) (v : Verdict) (reply : List ℕ) (entry : Entry) → spoken number v ≡ verdict.Accept reply entry → v ≡ verdict.Accept reply entry
 spoken_accepts number verdict.Silent reply entry is = is
 spoken_accepts number (verdict.Reply r) reply entry is = is
 spoken_accepts number (verdict.LongReply r) reply entry is = is
-spoken_accepts number (verdict.Shows x body) reply entry is = absurd (cc is)
+spoken_accepts number (verdict.Retrieves x body) reply entry is = absurd (cc is)
 spoken_accepts number (verdict.Accept r e) reply entry is = is
 
 module _ (server : ServerValue) where
@@ -81,14 +81,14 @@ module _ (server : ServerValue) where
   spoken_plain number verdict.Silent can = refl
   spoken_plain number (verdict.Reply reply) can = refl
   spoken_plain number (verdict.LongReply reply) can = refl
-  spoken_plain number (verdict.Shows x body) can = absurd can
+  spoken_plain number (verdict.Retrieves x body) can = absurd can
   spoken_plain number (verdict.Accept reply entry) can = refl
 
-  shows_nothing : (v : Verdict) → CanCarryOut v server → is_shown v ≡ false
+  shows_nothing : (v : Verdict) → CanCarryOut v server → is_retrieved v ≡ false
   shows_nothing verdict.Silent can = refl
   shows_nothing (verdict.Reply reply) can = refl
   shows_nothing (verdict.LongReply reply) can = refl
-  shows_nothing (verdict.Shows x body) can = absurd can
+  shows_nothing (verdict.Retrieves x body) can = absurd can
   shows_nothing (verdict.Accept reply entry) can = refl
 
   module _ (settings : SettingsValue) (peer : ℕ) (observed : List ObservedValue) where
@@ -99,19 +99,19 @@ module _ (server : ServerValue) where
       observers = λ lists. refl;
     }
 
-    pub alone_does : (decided : Result Verdict NoMemory) (made : Result Outcome NoMemory) (answer : Verdict)
-        → IfOk made (λ outcome. (outcome.watching ≡ watching.Nothing) × (decided ≡ Ok outcome.verdict)) → IfOk decided (λ v. v ≡ answer) → IfOk decided (λ v. CanCarryOut v server)
-        → IfOk made (λ outcome. Does settings peer observed watching.Nothing answer outcome.watching outcome.verdict)
+    pub alone_does : (decided : Result Verdict NoMemory) (made : Result Decision NoMemory) (answer : Verdict)
+        → IfOk made (λ decision. (decision.watching ≡ watching.Nothing) × (decided ≡ Ok decision.verdict)) → IfOk decided (λ v. v ≡ answer) → IfOk decided (λ v. CanCarryOut v server)
+        → IfOk made (λ decision. Does settings peer observed watching.Nothing answer decision.watching decision.verdict)
     alone_does decided (Err e) answer is valued can = tt
-    alone_does decided (Ok outcome) answer is valued can =
+    alone_does decided (Ok decision) answer is valued can =
         let v = subst (λ r. IfOk r (λ v. v ≡ answer)) is.1 valued in
         let ready = subst (λ r. IfOk r (λ v. CanCarryOut v server)) is.1 can in
-        subst (λ w. Does settings peer observed watching.Nothing answer w outcome.verdict) (sym is.0) (nothing_does outcome.verdict answer v ready)
+        subst (λ w. Does settings peer observed watching.Nothing answer w decision.verdict) (sym is.0) (nothing_does decision.verdict answer v ready)
 
-  pub alone_ready : (decided : Result Verdict NoMemory) (made : Result Outcome NoMemory) → IfOk made (λ outcome. (outcome.watching ≡ watching.Nothing) × (decided ≡ Ok outcome.verdict))
-      → IfOk decided (λ v. CanCarryOut v server) → IfOk made (λ outcome. CanCarryOut outcome.verdict server)
+  pub alone_ready : (decided : Result Verdict NoMemory) (made : Result Decision NoMemory) → IfOk made (λ decision. (decision.watching ≡ watching.Nothing) × (decided ≡ Ok decision.verdict))
+      → IfOk decided (λ v. CanCarryOut v server) → IfOk made (λ decision. CanCarryOut decision.verdict server)
   alone_ready decided (Err e) is can = tt
-  alone_ready decided (Ok outcome) is can = subst (λ r. IfOk r (λ v. CanCarryOut v server)) is.1 can
+  alone_ready decided (Ok decision) is can = subst (λ r. IfOk r (λ v. CanCarryOut v server)) is.1 can
 
   -- ---- a GET of mitigations
   tell_available : (number : Option ℕ) (x : Exchange) (content : Content) (ms : List LiveView) (peer : ℕ) → is_unavailable (sends_of number (get_reply x content ms) peer) ≡ false
@@ -138,7 +138,7 @@ module _ (server : ServerValue) where
     told_so : (lists : Lists) (s : Observe)
         → observing settings lists from.peer (asked_from from mid content s) answer (sends_of None v from.peer) observed ≡ changed settings.limits.observers lists from.peer (leaving from.exchange s) observed
     told_so lists said.Register =
-        cond-false (is_shown answer) (registered lists settings.limits.observers (record { peer = from.peer; domain = from.domain; token = from.exchange.token; cuid = from.cuid; mid = mid; content = content }) observed) observed
+        cond-false (is_retrieved answer) (registered lists settings.limits.observers (record { peer = from.peer; domain = from.domain; token = from.exchange.token; cuid = from.cuid; mid = mid; content = content }) observed) observed
         (shows_nothing answer can_answer)
     told_so lists said.Deregister = cond-false (is_unavailable (sends_of None v from.peer)) observed (deregistered from.peer from.exchange.token observed) available
     told_so lists said.No = refl
@@ -152,7 +152,7 @@ module _ (server : ServerValue) where
 -- mitigations are shown
 module _ (settings : SettingsValue) (from : ClientRequest) (mid : Option ℕ) (content : Content) (observed : List ObservedValue) (body reply : List ℕ) (number : Option ℕ) where
   shown_so : (lists : Lists) (s : Observe) → reply ≡ showing from.exchange number body
-      → observing settings lists from.peer (asked_from from mid content s) (verdict.Shows from.exchange body) (sends_of None (verdict.LongReply reply) from.peer) observed
+      → observing settings lists from.peer (asked_from from mid content s) (verdict.Retrieves from.exchange body) (sends_of None (verdict.LongReply reply) from.peer) observed
       ≡ changed settings.limits.observers lists from.peer (asked_from from mid content s) observed
   shown_so lists said.Register is = refl
   shown_so lists said.Deregister is =
@@ -164,7 +164,7 @@ module _ (settings : SettingsValue) (from : ClientRequest) (mid : Option ℕ) (c
   shown_so lists said.No is = refl
 
   pub show_does : (s : Observe) → number ≡ number_of settings (asked_from from mid content s) observed → reply ≡ showing from.exchange number body
-      → Does settings from.peer observed (asked_from from mid content s) (verdict.Shows from.exchange body) (asked_from from mid content s) (verdict.LongReply reply)
+      → Does settings from.peer observed (asked_from from mid content s) (verdict.Retrieves from.exchange body) (asked_from from mid content s) (verdict.LongReply reply)
   show_does s number_is is = record {
     verdict_is = ap verdict.LongReply (is ∙ ap (λ n. showing from.exchange n body) number_is);
     observers = λ lists. shown_so lists s is;
@@ -257,7 +257,7 @@ module _ (server : ServerValue) (settings : SettingsValue) (state : State) (repr
   seen_same = fun_ext (λ domain. fun_ext (λ cuid. fun_ext (λ mid. seen_there domain cuid mid)))
 
   pub bodies_same : bodies_of tables ≡ bodies_at settings state.time state.history
-  bodies_same = fun_ext (λ observer. ap (λ views. shown_body observer.content (filter (is_wanted observer.mid) views)) (views_same observer.domain observer.cuid))
+  bodies_same = fun_ext (λ observer. ap (λ views. retrieved_body observer.content (filter (is_wanted observer.mid) views)) (views_same observer.domain observer.cuid))
 
 -- ---- who may observe
 ring_pairs : (peer domain : ℕ) (rings : List RingValue) → list_any (is_ring_of peer domain) rings ≡ list_any (is_pair peer domain) (map pair_of rings)

@@ -10,16 +10,16 @@ pub record Gathered : Type 0 where
 
 -- what a sink holds, where it tells that, and how often it failed
 pub record Sunk : Type 0 where
-  pub held : Option (List ℕ)
+  pub written : Option (List ℕ)
   pub faults : ℕ
 
 abbrev pub sunk : {K : Type 0} → (K → Option (List ℕ)) → (K → ℕ) → K → Sunk
-sunk holds faults sink = record { held = holds sink; faults = faults sink }
+sunk holds faults sink = record { written = holds sink; faults = faults sink }
 
 -- Since the start the text was written but for what is gathered; or a beginning of it was written, and the sink failed.
 abbrev pub HasWritten : Sunk → Sunk → Bool → List ℕ → List ℕ → Type 0
-HasWritten start now false block text = Owes start.held now.held text block × (now.faults ≡ start.faults)
-HasWritten start now true block text = AppendsBeginning start.held now.held text × (start.faults ≤ now.faults) × Rose start.faults now.faults
+HasWritten start now false block text = Owes start.written now.written text block × (now.faults ≡ start.faults)
+HasWritten start now true block text = AppendsBeginning start.written now.written text × (start.faults ≤ now.faults) × Rose start.faults now.faults
 
 -- Whatever was written since any start, this text stands behind it now.
 abbrev pub Puts : Sunk → Gathered → Sunk → Gathered → List ℕ → Type 0

@@ -5,7 +5,7 @@ use Rattle.ip_scope.specs.PrefixText.{prefix_text}
 use Rattle.acl_lists.specs.declared.ace.Ace.{Ace}
 use Rattle.filter_rows.specs.declared.rows.ScrubRow.{ScrubRow}
 use Rattle.filter_rows.specs.declared.rows.AclRow.{AclRow}
-use Rattle.filter_table.specs.declared.held.HeldAcl.{HeldAcl}
+use Rattle.filter_table.specs.declared.placed.PlacedAcl.{PlacedAcl}
 use Rattle.filter_table.specs.TableRows.{row_of_acl}
 use Rattle.dots_settings.specs.Settings.{SettingsValue}
 use Rattle.dots_settings.specs.Lookups.{name_of}
@@ -21,7 +21,7 @@ line_end row = any_or (texts_of decimal row.protocols) ++ codes " " ++ any_or (t
 -- ---- access lists
 
 -- the rows of the lists that filter
-abbrev pub active_lists : List HeldAcl → List AclRow
+abbrev pub active_lists : List PlacedAcl → List AclRow
 active_lists held = filter (λ row. row.active) (map row_of_acl held)
 
 -- the text where the test holds, and else none

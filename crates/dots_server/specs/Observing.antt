@@ -30,7 +30,7 @@ use Rattle.dots_machine.specs.Verdict.{Verdict}
 use Rattle.dots_machine.specs.declared.verdict.Verdict.TheVariants as verdict
 use Rattle.dots_machine.specs.Mitigations.{is_wanted}
 use Rattle.dots_machine.specs.Observing.{Watches, number_of, observing}
-use Rattle.dots_machine.specs.Replies.{showing, shown_body}
+use Rattle.dots_machine.specs.Replies.{showing, retrieved_body}
 use Rattle.dots_machine.specs.Machine.{State, Decides, sends_of}
 
 -- ---- what is asked
@@ -45,12 +45,12 @@ asked_from from mid content said.Register = watching.Registers (record {
   mid = mid;
   content = content;
 })
-asked_from from mid content said.Deregister = watching.Leaves from.exchange.token
+asked_from from mid content said.Deregister = watching.Cancels from.exchange.token
 asked_from from mid content said.No = watching.Nothing
 
 -- by one that isn't shown what it asks for
 abbrev pub leaving : Exchange → Observe → Watching
-leaving exchange said.Deregister = watching.Leaves exchange.token
+leaving exchange said.Deregister = watching.Cancels exchange.token
 leaving exchange _ = watching.Nothing
 
 -- by a message that asks nothing
@@ -62,13 +62,13 @@ rejecting _ = watching.Nothing
 
 -- the verdict as it is sent, where Observe has this number
 abbrev pub spoken : Option ℕ → Verdict → Verdict
-spoken number (verdict.Shows exchange body) = verdict.LongReply (showing exchange number body)
+spoken number (verdict.Retrieves exchange body) = verdict.LongReply (showing exchange number body)
 spoken number decided = decided
 
 -- an observer is registered, where there is room, or one goes
 abbrev pub changed : ℕ → Lists → ℕ → Watching → List ObservedValue → List ObservedValue
 changed room lists peer (watching.Registers observer) observed = registered lists room observer observed
-changed room lists peer (watching.Leaves token) observed = deregistered peer token observed
+changed room lists peer (watching.Cancels token) observed = deregistered peer token observed
 changed room lists peer (watching.Rejects id) observed = without_id peer id observed
 changed room lists peer watching.Nothing observed = observed
 
@@ -92,20 +92,20 @@ MayObserve pairs (watching.Registers observer) = list_any (is_pair observer.peer
 MayObserve pairs _ = ⊤
 
 -- an event by which observers are notified: a datagram, a piece of a connection, or a tick
-abbrev pub Tells : What → Type 0
-Tells (what.Datagram from len) = ⊤
-Tells (what.Piece conn len) = ⊤
-Tells what.Tick = ⊤
-Tells _ = ⊥
+abbrev pub MayNotify : What → Type 0
+MayNotify (what.Datagram from len) = ⊤
+MayNotify (what.Piece conn len) = ⊤
+MayNotify what.Tick = ⊤
+MayNotify _ = ⊥
 
 -- ---- what observers are shown
 
-pub record ShownValue : Type 0 where
+pub record ServerViewsValue : Type 0 where
   pub settings : SettingsValue
   pub registry : RegistryValue
 
 -- the registry has the domains of the settings, and represents some history
-pub record IsShown (shown : ShownValue) : Type 0 where
+pub record AreServerViews (shown : ServerViewsValue) : Type 0 where
   pub domains : domains_of shown.registry ≡ length shown.settings.domains
   pub history : List Entry
   pub represents : registry.Represents shown.registry history
@@ -118,4 +118,4 @@ views_by tables domain cuid =
     else []
 
 abbrev pub bodies_of : RegistryValue → Bodies
-bodies_of tables observer = shown_body observer.content (filter (is_wanted observer.mid) (views_by tables observer.domain observer.cuid))
+bodies_of tables observer = retrieved_body observer.content (filter (is_wanted observer.mid) (views_by tables observer.domain observer.cuid))

@@ -22,7 +22,7 @@ use Rattle.dots_server.specs.Taking.{stored_of}
 -- in a state, by its history: who asks, and what it is
 abbrev pub StandsThere : SettingsValue → ℕ → State → Line → RestFront → Type 0
 StandsThere settings conn state line at =
-    (caller : Caller) × (caller_of settings conn state.lines ≡ Some caller) × IsFront settings state.time state.history caller line.held at
+    (caller : Caller) × (caller_of settings conn state.lines ≡ Some caller) × IsFront settings state.time state.history caller line.buffered at
 
 -- an accepted entry can be taken
 abbrev pub CanAnswer : RestAnswer → ServerValue → Type 0
@@ -136,7 +136,7 @@ pub record PieceBroke (settings : SettingsValue) (conn : ℕ) (piece : List ℕ)
 -- how many bytes are held of a connection, and one more while it is there
 abbrev pub bytes_in : Option Line → ℕ
 bytes_in None = 0
-bytes_in (Some line) = length line.held + 1
+bytes_in (Some line) = length line.buffered + 1
 
 abbrev pub bytes_on : ℕ → List PeerLines → ℕ
 bytes_on conn lines = bytes_in (line_of conn lines)

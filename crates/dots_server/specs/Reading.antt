@@ -9,10 +9,10 @@ use Rattle.dots_server.specs.ServerValues.{ServerValue, CanCarryOut}
 
 -- as a verdict of the machine
 abbrev pub read_as : Exchange → Reading → Verdict
-read_as exchange (reading.Told decided) = decided
-read_as exchange (reading.Shown body) = verdict.Shows exchange body
+read_as exchange (reading.Answered decided) = decided
+read_as exchange (reading.Listed body) = verdict.Retrieves exchange body
 
 -- what else is told can be carried out
-abbrev pub CanTell : Reading → ServerValue → Type 0
-CanTell (reading.Told decided) server = CanCarryOut decided server
-CanTell (reading.Shown body) server = ⊤
+abbrev pub CanAnswer : Reading → ServerValue → Type 0
+CanAnswer (reading.Answered decided) server = CanCarryOut decided server
+CanAnswer (reading.Listed body) server = ⊤

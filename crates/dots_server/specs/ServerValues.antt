@@ -92,5 +92,5 @@ IsAccepted decided = (reply : List ℕ) × (entry : Entry) × (decided ≡ verdi
 -- What shows mitigations is a message before it is carried out.
 abbrev pub CanCarryOut : Verdict → ServerValue → Type 0
 CanCarryOut (verdict.Accept reply entry) server = IsAcceptable server entry
-CanCarryOut (verdict.Shows exchange body) server = ⊥
+CanCarryOut (verdict.Retrieves exchange body) server = ⊥
 CanCarryOut _ server = ⊤

@@ -16,7 +16,7 @@ use Rattle.dots_laws.specs.Calm.{is_own}
 use Rattle.dots_laws.specs.Fits.{is_calm, last_time}
 use Rattle.slot_store.specs.StoreValues.{JournalValue}
 use Rattle.slot_journal.specs.DiskEntries as journal
-use Rattle.slot_journal.specs.Kept.{HoldsKept}
+use Rattle.slot_journal.specs.Kept.{HasKept}
 use Rattle.dots_notices.specs.Notifying.{SentTo}
 use Rattle.dots_machine.specs.Machine.{State}
 
@@ -28,9 +28,9 @@ IsServed what.Restart = ⊥
 IsServed _ = ⊤
 
 -- A crash between the states leaves calm entries with the view of the history of the one, or of the other, at the time of the later one.
-abbrev pub HoldsTurn : SettingsValue → State → State → (ℕ → ℕ) → Type 0
-HoldsTurn settings old new image =
-    HoldsKept settings settings.limits.remembered new.time old.history image ⊎ HoldsKept settings settings.limits.remembered new.time new.history image
+abbrev pub HasTurn : SettingsValue → State → State → (ℕ → ℕ) → Type 0
+HasTurn settings old new image =
+    HasKept settings settings.limits.remembered new.time old.history image ⊎ HasKept settings settings.limits.remembered new.time new.history image
 
 -- A turn led from the one state to the other. At each moment up to the first send the disk has entries with the view of the one history or
 -- of the other; there it rests with those of the other; and from then on nothing is written, and the sends are given, one moment after the
@@ -40,7 +40,7 @@ pub record Turned (settings : SettingsValue) (old new : State) (outs : List Owne
   pub moment : ℕ
   pub is_moment : IsMoment moment between
   pub gives : Added acts acts_new (Gives moment outs)
-  pub writes : RestsWith media before → Leaves media between (HoldsTurn settings old new)
+  pub writes : RestsWith media before → Leaves media between (HasTurn settings old new)
   pub rests : RestsWith media before → RestsWith between after
   pub sends : KeepsMedia between media_new
 
@@ -50,7 +50,7 @@ pub record TurnedTo (last : ℕ) (settings : SettingsValue) (old new : State) (o
   pub moment : ℕ
   pub is_moment : IsMoment moment between
   pub gives : Added acts acts_new (SentTo moment last outs)
-  pub writes : RestsWith media before → Leaves media between (HoldsTurn settings old new)
+  pub writes : RestsWith media before → Leaves media between (HasTurn settings old new)
   pub rests : RestsWith media before → RestsWith between after
   pub sends : KeepsMedia between media_new
 
@@ -58,14 +58,14 @@ pub record TurnedTo (last : ℕ) (settings : SettingsValue) (old new : State) (o
 -- history or of the other, and in the end it rests with those of the other.
 pub record Wrote (settings : SettingsValue) (old new : State) (before after : (ℕ → ℕ) → Type 0) (media media_new : Option Media) (acts acts_new : Option (List Timed)) : Type 0 where
   pub silent : KeepsActs acts acts_new
-  pub writes : RestsWith media before → Leaves media media_new (HoldsTurn settings old new)
+  pub writes : RestsWith media before → Leaves media media_new (HasTurn settings old new)
   pub rests : RestsWith media before → RestsWith media_new after
 
 -- The disk failed on the way from the one state to the other: nothing was sent, and at each moment the disk has entries with the view of the
 -- one history or of the other. The entries of the other are the settings' own.
 pub record Broke (settings : SettingsValue) (old new : State) (before : (ℕ → ℕ) → Type 0) (media media_new : Option Media) (acts acts_new : Option (List Timed)) : Type 0 where
   pub silent : KeepsActs acts acts_new
-  pub writes : RestsWith media before → Leaves media media_new (HoldsTurn settings old new)
+  pub writes : RestsWith media before → Leaves media media_new (HasTurn settings old new)
   pub own : list_all (is_own settings) new.history ≡ true
 
 -- a journal, with the entries that are on its disk

@@ -9,11 +9,11 @@ ghost use Rattle.dots_laws.specs.Calm.{may_configure};
 ghost use Rattle.held_resources.specs.Tables.{config_now};
 ghost use Rattle.dots_registry.specs.RegistryValues.{time_of};
 ghost use Rattle.session_core.specs.Negotiating.{negotiated};
-ghost use Rattle.dots_machine.specs.Domains.{session_domain};
+ghost use Rattle.dots_machine.specs.Domains.{config_domain};
 ghost use Rattle.dots_machine.specs.Machine.{State, facts_in};
 ghost use Rattle.dots_machine.specs.declared.verdict.Verdict.TheVariants as verdicts;
 ghost use Rattle.dots_machine.specs.Sessions.{sid_of, is_held, configured_in};
-ghost use Rattle.dots_machine.specs.Deciding.{in_domain, session_entry, config_answer, put_config_for, clear_answer, delete_config_for, config_view, get_config_for};
+ghost use Rattle.dots_machine.specs.Deciding.{in_domain, config_entry, config_answer, put_config_for, clear_answer, delete_config_for, config_view, get_config_for};
 ghost use Rattle.dots_server.specs.Asking.{role_with, IsOwn};
 ghost use Rattle.dots_server.specs.Sessions.{is_wanted};
 ghost use Rattle.dots_server.specs.ServerValues.{Represents, CanCarryOut};
@@ -25,7 +25,7 @@ use dots_keys::ConfigBody;
 use dots_lists::NoMemory;
 use dots_machine::{Exchange, ShortMessage};
 use dots_replies::{
-    absent, configuration_reply, configuring, deleted, older_sid, out_of_range, session_entry,
+    absent, configuration_reply, configuring, deleted, older_sid, out_of_range, config_entry,
 };
 use dots_settings::NO_DOMAIN;
 use session_core::{ConfigFault, negotiate};
@@ -42,10 +42,10 @@ impl Server {
     ) -> Result<Verdict, NoMemory>
         requires own { IsOwn self.now.settings peer own }
         ensures decides { (settings : SettingsValue) (state : State) → Represents self.now settings state
-            → IfOk result (λ verdict. verdict ≡ in_domain exchange.now (session_domain (role_of settings peer)) (put_config_for (facts_in settings state) peer exchange.now sid body.now)) }
+            → IfOk result (λ verdict. verdict ≡ in_domain exchange.now (config_domain (role_of settings peer)) (put_config_for (facts_in settings state) peer exchange.now sid body.now)) }
         ensures ready { IfOk result (λ verdict. CanCarryOut verdict self.now) }
     {
-        let domain = session_domain(own);
+        let domain = config_domain(own);
         let known = self.remembered(peer, domain, exchange);
         if let Some(reply) = known {
             return Ok(Verdict::Reply(reply));
@@ -97,11 +97,11 @@ impl Server {
         requires may { may_configure (role_of self.now.settings peer) domain ≡ true }
         requires configures { is_configuration change ≡ true }
         requires within { change_within change ≡ true }
-        ensures verdict { IfOk result (λ verdict. verdict ≡ verdicts.Accept reply (session_entry (time_of self.now.registry) peer domain exchange.now reply change)) }
+        ensures verdict { IfOk result (λ verdict. verdict ≡ verdicts.Accept reply (config_entry (time_of self.now.registry) peer domain exchange.now reply change)) }
         ensures ready { IfOk result (λ verdict. CanCarryOut verdict self.now) }
     {
         let time = self.ledger.registry().time();
-        let entry = session_entry(self.alloc, time, peer, domain, exchange, &reply, change)?;
+        let entry = config_entry(self.alloc, time, peer, domain, exchange, &reply, change)?;
         let entry = self.ledger.registry().stage(entry)?;
         Ok(Verdict::Accept { reply, entry })
     }
@@ -116,10 +116,10 @@ impl Server {
     ) -> Result<Verdict, NoMemory>
         requires own { IsOwn self.now.settings peer own }
         ensures decides { (settings : SettingsValue) (state : State) → Represents self.now settings state
-            → IfOk result (λ verdict. verdict ≡ in_domain exchange.now (session_domain (role_of settings peer)) (delete_config_for (facts_in settings state) peer exchange.now sid)) }
+            → IfOk result (λ verdict. verdict ≡ in_domain exchange.now (config_domain (role_of settings peer)) (delete_config_for (facts_in settings state) peer exchange.now sid)) }
         ensures ready { IfOk result (λ verdict. CanCarryOut verdict self.now) }
     {
-        let domain = session_domain(own);
+        let domain = config_domain(own);
         let known = self.remembered(peer, domain, exchange);
         if let Some(reply) = known {
             return Ok(Verdict::Reply(reply));
@@ -162,10 +162,10 @@ impl Server {
     ) -> Result<Verdict, NoMemory>
         requires own { IsOwn self.now.settings peer own }
         ensures decides { (settings : SettingsValue) (state : State) → Represents self.now settings state
-            → IfOk result (λ verdict. verdict ≡ in_domain exchange.now (session_domain (role_of settings peer)) (get_config_for (facts_in settings state) peer exchange.now sid)) }
+            → IfOk result (λ verdict. verdict ≡ in_domain exchange.now (config_domain (role_of settings peer)) (get_config_for (facts_in settings state) peer exchange.now sid)) }
         ensures ready { IfOk result (λ verdict. CanCarryOut verdict self.now) }
     {
-        self.view_config(peer, session_domain(own), exchange, sid)
+        self.view_config(peer, config_domain(own), exchange, sid)
     }
 
     /// What the rules say of it.
@@ -190,8 +190,8 @@ impl Server {
 }
 
 /// The domain for which a client of this domain, or a gateway, configures its session (RFC 9132, section 4.5).
-fn session_domain(own: Option<u16>) -> u16
-    ensures domain { session_domain (role_with own) ≡ Some result }
+fn config_domain(own: Option<u16>) -> u16
+    ensures domain { config_domain (role_with own) ≡ Some result }
     ensures may { may_configure (role_with own) result ≡ true }
 {
     match own {

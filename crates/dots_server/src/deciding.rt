@@ -35,7 +35,7 @@ use dots_settings::Role;
 
 /// What is to be done.
 #[derive(Drop)]
-pub(crate) struct Outcome {
+pub(crate) struct Decision {
     /// What becomes of the observers.
     pub watching: Watching,
     /// What is sent, and what is accepted.
@@ -47,7 +47,7 @@ pub(crate) struct Outcome {
 pub(crate) struct Decided {
     /// Whether its peer is heard by it.
     pub heard: bool,
-    pub outcome: Outcome,
+    pub decision: Decision,
 }
 
 impl Server {
@@ -55,15 +55,15 @@ impl Server {
     /// be carried out.
     pub(crate) fn decide(&self, peer: u32, datagram: &[u8]) -> Decided
         ensures does { (settings : SettingsValue) (state : State) → Represents self.now settings state
-            → DoesDecided settings state peer datagram.now result.outcome.watching result.outcome.verdict }
+            → DoesDecided settings state peer datagram.now result.decision.watching result.decision.verdict }
         ensures hears { (state : State) → Hears self.now.settings state peer datagram.now (met result.heard peer state) }
-        ensures ready { CanCarryOut result.outcome.verdict self.now }
-        ensures may { MayObserve self.now.watch.observers.pairs result.outcome.watching }
+        ensures ready { CanCarryOut result.decision.verdict self.now }
+        ensures may { MayObserve self.now.watch.observers.pairs result.decision.watching }
     {
         match self.settings.domain_of(peer) {
             Role::Stranger => Decided {
                 heard: false,
-                outcome: unobserved(Verdict::Silent),
+                decision: unobserved(Verdict::Silent),
             },
             Role::Client(domain) => self.decide_known(peer, Some(domain), datagram),
             Role::Gateway => self.decide_known(peer, None, datagram),
@@ -74,25 +74,25 @@ impl Server {
     fn decide_known(&self, peer: u32, own: Option<u16>, datagram: &[u8]) -> Decided
         requires own { IsOwn self.now.settings peer own }
         ensures does { (settings : SettingsValue) (state : State) → Represents self.now settings state
-            → DoesDecided settings state peer datagram.now result.outcome.watching result.outcome.verdict }
+            → DoesDecided settings state peer datagram.now result.decision.watching result.decision.verdict }
         ensures hears { (state : State) → Hears self.now.settings state peer datagram.now (met result.heard peer state) }
-        ensures ready { CanCarryOut result.outcome.verdict self.now }
-        ensures may { MayObserve self.now.watch.observers.pairs result.outcome.watching }
+        ensures ready { CanCarryOut result.decision.verdict self.now }
+        ensures may { MayObserve self.now.watch.observers.pairs result.decision.watching }
     {
         match receive(self.alloc, datagram, own.is_none()) {
             Ok(received) => Decided {
                 heard: is_heard(&received),
-                outcome: self.decide_on(peer, own, received),
+                decision: self.decide_on(peer, own, received),
             },
             Err(exchange) => Decided {
                 heard: true,
-                outcome: unobserved(Verdict::Reply(unavailable(&exchange))),
+                decision: unobserved(Verdict::Reply(unavailable(&exchange))),
             },
         }
     }
 
     /// What is decided on what a client of this domain, or a gateway, sent.
-    fn decide_on(&self, peer: u32, own: Option<u16>, received: Received) -> Outcome
+    fn decide_on(&self, peer: u32, own: Option<u16>, received: Received) -> Decision
         requires own { IsOwn self.now.settings peer own }
         requires grantable { IsGrantable received }
         ensures does { (settings : SettingsValue) (state : State) → Represents self.now settings state
@@ -102,7 +102,7 @@ impl Server {
     {
         match received {
             Received::Unread(dismissal) => unobserved(dismissal_verdict(dismissal)),
-            Received::Dismissed(dismissal) => Outcome {
+            Received::Dismissed(dismissal) => Decision {
                 watching: rejecting(dismissal),
                 verdict: dismissal_verdict(dismissal),
             },
@@ -111,7 +111,7 @@ impl Server {
             }
             Received::Asked { exchange, request } => {
                 match self.decide_request(peer, own, exchange, request) {
-                    Ok(outcome) => outcome,
+                    Ok(decision) => decision,
                     Err(_) => unobserved(Verdict::Reply(unavailable(&exchange))),
                 }
             }
@@ -125,14 +125,14 @@ impl Server {
         own: Option<u16>,
         exchange: Exchange,
         request: Request,
-    ) -> Result<Outcome, NoMemory>
+    ) -> Result<Decision, NoMemory>
         requires askable { IsAskable request }
         requires own { IsOwn self.now.settings peer own }
         ensures does { (settings : SettingsValue) (state : State) → Represents self.now settings state
-            → IfOk result (λ outcome. Does settings peer state.observers (watching_of settings peer (received.Asked exchange request))
-            (answer_to settings (facts_in settings state) peer exchange request) outcome.watching outcome.verdict) }
-        ensures ready { IfOk result (λ outcome. CanCarryOut outcome.verdict self.now) }
-        ensures may { IfOk result (λ outcome. MayObserve self.now.watch.observers.pairs outcome.watching) }
+            → IfOk result (λ decision. Does settings peer state.observers (watching_of settings peer (received.Asked exchange request))
+            (answer_to settings (facts_in settings state) peer exchange request) decision.watching decision.verdict) }
+        ensures ready { IfOk result (λ decision. CanCarryOut decision.verdict self.now) }
+        ensures may { IfOk result (λ decision. MayObserve self.now.watch.observers.pairs decision.watching) }
     {
         match request {
             Request::PutMitigation { path, body } => {
@@ -207,13 +207,13 @@ impl Server {
         path: MitigationPath,
         content: Content,
         observe: Observe,
-    ) -> Result<Outcome, NoMemory>
+    ) -> Result<Decision, NoMemory>
         requires own { IsOwn self.now.settings peer own }
         ensures does { (settings : SettingsValue) (state : State) → Represents self.now settings state
-            → IfOk result (λ outcome. Does settings peer state.observers (in_known (domain_for settings (role_of settings peer) path.cdid) (asked_in peer exchange content path observe))
-            (in_domain exchange (domain_for settings (role_of settings peer) path.cdid) (get_for (facts_in settings state) peer exchange path content)) outcome.watching outcome.verdict) }
-        ensures ready { IfOk result (λ outcome. CanCarryOut outcome.verdict self.now) }
-        ensures may { IfOk result (λ outcome. MayObserve self.now.watch.observers.pairs outcome.watching) }
+            → IfOk result (λ decision. Does settings peer state.observers (in_known (domain_for settings (role_of settings peer) path.cdid) (asked_in peer exchange content path observe))
+            (in_domain exchange (domain_for settings (role_of settings peer) path.cdid) (get_for (facts_in settings state) peer exchange path content)) decision.watching decision.verdict) }
+        ensures ready { IfOk result (λ decision. CanCarryOut decision.verdict self.now) }
+        ensures may { IfOk result (λ decision. MayObserve self.now.watch.observers.pairs decision.watching) }
     {
         let mid = path.mid;
         match self.asks_for(peer, own, exchange, path) {
@@ -229,20 +229,20 @@ impl Server {
         mid: Option<u32>,
         content: Content,
         observe: Observe,
-    ) -> Result<Outcome, NoMemory>
+    ) -> Result<Decision, NoMemory>
         requires acts { may_act self.now.settings (role_of self.now.settings from.peer) from.domain ≡ true }
         ensures does { (settings : SettingsValue) (state : State) → Represents self.now settings state
-            → IfOk result (λ outcome. Does settings from.peer state.observers (asked_from from mid content observe)
-            (get_answer (facts_in settings state) from mid content) outcome.watching outcome.verdict) }
-        ensures ready { IfOk result (λ outcome. CanCarryOut outcome.verdict self.now) }
-        ensures may { IfOk result (λ outcome. MayObserve self.now.watch.observers.pairs outcome.watching) }
+            → IfOk result (λ decision. Does settings from.peer state.observers (asked_from from mid content observe)
+            (get_answer (facts_in settings state) from mid content) decision.watching decision.verdict) }
+        ensures ready { IfOk result (λ decision. CanCarryOut decision.verdict self.now) }
+        ensures may { IfOk result (λ decision. MayObserve self.now.watch.observers.pairs decision.watching) }
     {
         match self.decide_get(&from, mid, content)? {
-            Reading::Told(verdict) => Ok(Outcome {
+            Reading::Answered(verdict) => Ok(Decision {
                 watching: leaving(&from.exchange, observe),
                 verdict,
             }),
-            Reading::Shown(body) => self.show(from, mid, content, observe, &body),
+            Reading::Listed(body) => self.show(from, mid, content, observe, &body),
         }
     }
 
@@ -254,22 +254,22 @@ impl Server {
         content: Content,
         observe: Observe,
         body: &Bytes,
-    ) -> Result<Outcome, NoMemory>
+    ) -> Result<Decision, NoMemory>
         requires acts { may_act self.now.settings (role_of self.now.settings from.peer) from.domain ≡ true }
         ensures does { (settings : SettingsValue) (state : State) → Represents self.now settings state
-            → IfOk result (λ outcome. Does settings from.peer state.observers (asked_from from mid content observe)
-            (verdicts.Shows from.exchange body.now) outcome.watching outcome.verdict) }
-        ensures ready { IfOk result (λ outcome. CanCarryOut outcome.verdict self.now) }
-        ensures may { IfOk result (λ outcome. MayObserve self.now.watch.observers.pairs outcome.watching) }
+            → IfOk result (λ decision. Does settings from.peer state.observers (asked_from from mid content observe)
+            (verdicts.Retrieves from.exchange body.now) decision.watching decision.verdict) }
+        ensures ready { IfOk result (λ decision. CanCarryOut decision.verdict self.now) }
+        ensures may { IfOk result (λ decision. MayObserve self.now.watch.observers.pairs decision.watching) }
     {
         let exchange = from.exchange;
         let watching = asked_from(from, mid, content, observe);
         let number = match &watching {
             Watching::Registers(observer) => self.watch.number(observer),
-            Watching::Nothing | Watching::Leaves(_) | Watching::Rejects(_) => None,
+            Watching::Nothing | Watching::Cancels(_) | Watching::Rejects(_) => None,
         };
         let reply = showing(self.alloc, &exchange, number, body.items())?;
-        Ok(Outcome {
+        Ok(Decision {
             watching,
             verdict: Verdict::LongReply(reply),
         })
@@ -348,18 +348,18 @@ impl Server {
 }
 
 /// What is to be done where nothing is asked of observation.
-fn unobserved(verdict: Verdict) -> Outcome
+fn unobserved(verdict: Verdict) -> Decision
     ensures { result ≡ record { watching = watchings.Nothing; verdict = verdict } }
 {
-    Outcome {
+    Decision {
         watching: Watching::Nothing,
         verdict,
     }
 }
 
 /// The same, of what is decided.
-fn alone(decided: Result<Verdict, NoMemory>) -> Result<Outcome, NoMemory>
-    ensures { IfOk result (λ outcome. (outcome.watching ≡ watchings.Nothing) × (decided ≡ Ok outcome.verdict)) }
+fn alone(decided: Result<Verdict, NoMemory>) -> Result<Decision, NoMemory>
+    ensures { IfOk result (λ decision. (decision.watching ≡ watchings.Nothing) × (decided ≡ Ok decision.verdict)) }
 {
     match decided {
         Ok(verdict) => Ok(unobserved(verdict)),
@@ -373,7 +373,7 @@ fn asked_from(from: ClientRequest, mid: Option<u32>, content: Content, observe: 
 {
     match observe {
         Observe::No => Watching::Nothing,
-        Observe::Deregister => Watching::Leaves(from.exchange.token),
+        Observe::Deregister => Watching::Cancels(from.exchange.token),
         Observe::Register => Watching::Registers(Observer {
             peer: from.peer,
             domain: from.domain,
@@ -390,7 +390,7 @@ fn leaving(exchange: &Exchange, observe: Observe) -> Watching
     ensures { result ≡ leaving exchange.now observe }
 {
     match observe {
-        Observe::Deregister => Watching::Leaves(exchange.token),
+        Observe::Deregister => Watching::Cancels(exchange.token),
         Observe::No | Observe::Register => Watching::Nothing,
     }
 }

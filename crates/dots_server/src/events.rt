@@ -28,9 +28,9 @@ pub fn take_events<H: Host>(server: Server, host: &mut H, room: &mut [u8]) -> Re
     requires size { needed_of server.journal.slots ≤ H.extent host.old }
     // A run of the machine, where the disk is told, or where the acts are and none is a restart. Where the disk is told, and rested, the run
     // survives a crash at any moment.
-    ensures came { (settings : SettingsValue) (start : State) (held : List Entry) → IsKept server settings start held
-        → IsFollowed (RestsWith (H.media host.old) (journal.Represents server.journal settings held)) (H.acts host.old) (H.acts host.new)
-        → (end : Owing State) × Came settings start (stop_of result) (H.media host.old) (H.media host.new) (RestsWith (H.media host.old) (journal.Represents server.journal settings held))
+    ensures came { (settings : SettingsValue) (start : State) (stored : List Entry) → IsKept server settings start stored
+        → IsFollowed (RestsWith (H.media host.old) (journal.Represents server.journal settings stored)) (H.acts host.old) (H.acts host.new)
+        → (end : Owing State) × Came settings start (stop_of result) (H.media host.old) (H.media host.new) (RestsWith (H.media host.old) (journal.Represents server.journal settings stored))
         (H.acts host.old) (H.acts host.new) end
         × IfOk result (λ server. Represents server settings end.last) }
     ensures adds { Added (H.acts host.old) (H.acts host.new) (λ _. ⊤) }

@@ -125,8 +125,8 @@ impl Gatherer {
     /// Writes what is left, and says whether all went well.
     pub fn finish<K: Sink>(self, sink: &mut K) -> Result<(), Failed>
         ensures { (start : Sunk) (text : List ℕ) → HasWritten start (sunk K.holds K.faults sink.old) self.failed self.block text
-            → OnOk result (Appends start.held (K.holds sink.new) text)
-            × OnErr result (AppendsBeginning start.held (K.holds sink.new) text) × HasCause start.faults (K.faults sink.new) result }
+            → OnOk result (Appends start.written (K.holds sink.new) text)
+            × OnErr result (AppendsBeginning start.written (K.holds sink.new) text) × HasCause start.faults (K.faults sink.new) result }
     {
         let mut gatherer = self;
         gatherer.flush(sink);

@@ -23,7 +23,7 @@ ghost use Rattle.conflict_rules.specs.LiveViews.{LiveView};
 ghost use Rattle.live_mitigations.specs.LiveViews.{row_view};
 ghost use Rattle.conflict_rules.specs.Statuses.{is_standing, views_in};
 ghost use Rattle.dots_server.specs.ServerValues.{Represents, CanCarryOut};
-ghost use Rattle.dots_server.specs.Reading.{read_as, CanTell};
+ghost use Rattle.dots_server.specs.Reading.{read_as, CanAnswer};
 
 use crate::server::Server;
 use crate::verdict::Verdict;
@@ -34,7 +34,7 @@ use dots_machine::{ClientRequest, Exchange, MitigationRequest, ShortMessage, sco
 use dots_registry::Registry;
 use dots_replies::{
     absent, at_capacity, bad_request, bad_target, conflicting, copies, deleted, entry_of, granting,
-    shown_body, unavailable,
+    retrieved_body, unavailable,
 };
 use dots_settings::Settings;
 use live_mitigations::MitigationRow;
@@ -214,17 +214,17 @@ impl Server {
         requires acts { may_act self.now.settings (role_of self.now.settings from.now.peer) from.now.domain ≡ true }
         ensures decides { (settings : SettingsValue) (state : State) → Represents self.now settings state
             → IfOk result (λ reading. read_as from.now.exchange reading ≡ get_answer (facts_in settings state) from.now mid content) }
-        ensures ready { IfOk result (λ reading. CanTell reading self.now) }
+        ensures ready { IfOk result (λ reading. CanAnswer reading self.now) }
     {
         if self.is_taken(from) {
             let conflict = self.conflict(&from.exchange, mid, ConflictCause::Collision)?;
-            return Ok(Reading::Told(conflict));
+            return Ok(Reading::Answered(conflict));
         }
         let views = self.views(from, mid, content)?;
         if views.items().is_empty() {
-            return Ok(Reading::Told(Verdict::Reply(absent(&from.exchange))));
+            return Ok(Reading::Answered(Verdict::Reply(absent(&from.exchange))));
         }
-        Ok(Reading::Shown(shown_body(self.alloc, views)?))
+        Ok(Reading::Listed(retrieved_body(self.alloc, views)?))
     }
 
     /// The refusal for what stands in the way.
@@ -297,9 +297,9 @@ impl Server {
 #[derive(Drop)]
 pub(crate) enum Reading {
     /// Something else than mitigations is told.
-    Told(Verdict),
+    Answered(Verdict),
     /// Mitigations are shown by this body.
-    Shown(Bytes),
+    Listed(Bytes),
 }
 
 /// The live mitigations of the client of this name in a domain, or that of a mid, as they are to be told.

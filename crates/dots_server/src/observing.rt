@@ -18,31 +18,31 @@ use coap_observe::{Observer, Views};
 use dots_disk::Host;
 use dots_lists::{Bytes, List, NoMemory};
 use dots_machine::Watching;
-use dots_notices::{Shows, notify};
+use dots_notices::{ViewBodies, notify};
 use dots_registry::Registry;
-use dots_replies::shown_body;
+use dots_replies::retrieved_body;
 use dots_settings::Settings;
 use std::alloc::Global;
 use std::marker::Model;
 
 /// The mitigations of all clients, as their observers are shown them.
 #[derive(Drop)]
-pub(crate) struct Shown<'a> {
+pub(crate) struct ServerViews<'a> {
     pub settings: &'a Settings,
     pub registry: &'a Registry,
 }
 
-impl<'a> Model for Shown<'a> {
-    ghost use Rattle.dots_server.specs.Observing.{ShownValue, IsShown};
+impl<'a> Model for ServerViews<'a> {
+    ghost use Rattle.dots_server.specs.Observing.{ServerViewsValue, AreServerViews};
 
-    ghost Value = { ShownValue };
+    ghost Value = { ServerViewsValue };
 
     ghost view = { λ shown. record { settings = shown.settings.now; registry = shown.registry.now } };
 
-    ghost invariant = { λ shown. IsShown (record { settings = shown.settings.now; registry = shown.registry.now }) };
+    ghost invariant = { λ shown. AreServerViews (record { settings = shown.settings.now; registry = shown.registry.now }) };
 }
 
-impl Views for Shown<'_> {
+impl Views for ServerViews<'_> {
     ghost lists = { λ shown. views_of shown.registry };
 
     fn view(&self, domain: u16, cuid: &[u8], mid: Option<u32>, place: usize) -> Option<(u32, u8)> {
@@ -50,7 +50,7 @@ impl Views for Shown<'_> {
     }
 }
 
-impl Shows for Shown<'_> {
+impl ViewBodies for ServerViews<'_> {
     ghost use Rattle.dots_server.specs.Observing.{bodies_of};
 
     ghost bodies = { λ shown. bodies_of shown.registry };
@@ -65,9 +65,9 @@ impl Shows for Shown<'_> {
                 observer.mid,
                 observer.content,
             )?;
-            return shown_body(alloc, views);
+            return retrieved_body(alloc, views);
         }
-        shown_body(alloc, List::new(alloc))
+        retrieved_body(alloc, List::new(alloc))
     }
 }
 
@@ -88,7 +88,7 @@ impl Server {
             Watching::Registers(observer) => {
                 self.watch.register(observer, self.ledger.registry());
             }
-            Watching::Leaves(token) => self.watch.leave(peer, token.bytes()),
+            Watching::Cancels(token) => self.watch.cancel(peer, token.bytes()),
             Watching::Rejects(id) => self.watch.reset(peer, id),
         }
     }
@@ -109,7 +109,7 @@ impl Server {
         ensures leads { H.leads host.old host.new }
     {
         if !self.watch.due.is_nobody() {
-            let shown = Shown {
+            let shown = ServerViews {
                 settings: &self.settings,
                 registry: self.ledger.registry(),
             };

@@ -11,8 +11,8 @@ ghost use Rattle.dots_history.specs.declared.entry.Entry.{Entry};
 ghost use Rattle.dots_laws.specs.Calm.{may_act};
 ghost use Rattle.slot_store.specs.Layout.{needed_of};
 ghost use Rattle.slot_journal.specs.DiskEntries as journal;
-ghost use Rattle.stream_table.specs.Lines.{Line, AreOf, line_of, forgotten, holding};
-ghost use Rattle.stream_table.specs.Places.{AreApart, IsAt, NowHolds, line_at, with_more};
+ghost use Rattle.stream_table.specs.Lines.{Line, AreOf, line_of, forgotten, buffering};
+ghost use Rattle.stream_table.specs.Places.{AreApart, IsAt, NowBuffers, line_at, with_more};
 ghost use Rattle.rest_answers.specs.Replies.{refusal};
 ghost use Rattle.rest_answers.specs.Turns.{caller_of, is_waiting, HasSize, reply_in, closing};
 ghost use Rattle.dots_machine.specs.Machine.{State, receiving};
@@ -113,7 +113,7 @@ impl Server {
             → FrontBroke settings conn state self.old entries (H.media host.old) (H.media host.new) (H.acts host.old) (H.acts host.new)) }
         ensures fewer { IfOk result (λ more. more ≡ true → bytes_on conn self.new.lines < bytes_on conn self.old.lines) }
         // Where more is waited for, there is room for it.
-        ensures room { IfOk result (λ more. more ≡ false → (line : Line) → line_at place self.old.lines ≡ Some line → length line.held < 16384) }
+        ensures room { IfOk result (λ more. more ≡ false → (line : Line) → line_at place self.old.lines ≡ Some line → length line.buffered < 16384) }
         ensures adds { Added (H.acts host.old) (H.acts host.new) (λ _. ⊤) }
         ensures settings { self.new.settings ≡ self.old.settings }
         ensures slots { self.new.journal.slots ≡ self.old.journal.slots }
@@ -151,9 +151,9 @@ impl Server {
     /// Holds as many bytes of a piece as there is room for at this place, and says how many.
     fn hold(&mut self, place: LinePlace, piece: &[u8]) -> usize
         requires { (line : Line) × (line_at place self.old.lines ≡ Some line) }
-        ensures count { (line : Line) → line_at place self.old.lines ≡ Some line → result ≡ min (length piece.now) (16384 - length line.held) }
+        ensures count { (line : Line) → line_at place self.old.lines ≡ Some line → result ≡ min (length piece.now) (16384 - length line.buffered) }
         ensures held { (line : Line) → line_at place self.old.lines ≡ Some line
-            → NowHolds place (with_more (take result piece.now)) self.old.lines self.new.lines line }
+            → NowBuffers place (with_more (take result piece.now)) self.old.lines self.new.lines line }
         ensures others { self.new ≡ record self.old { lines = self.new.lines } }
     {
         self.lines.take(place, piece)
@@ -161,8 +161,8 @@ impl Server {
 
     /// Drops the bytes of a request that is answered.
     fn drop_request(&mut self, place: LinePlace, size: usize)
-        requires { (line : Line) × (line_at place self.old.lines ≡ Some line) × (size ≤ length line.held) }
-        ensures held { (line : Line) → line_at place self.old.lines ≡ Some line → NowHolds place (drop size) self.old.lines self.new.lines line }
+        requires { (line : Line) × (line_at place self.old.lines ≡ Some line) × (size ≤ length line.buffered) }
+        ensures held { (line : Line) → line_at place self.old.lines ≡ Some line → NowBuffers place (drop size) self.old.lines self.new.lines line }
         ensures others { self.new ≡ record self.old { lines = self.new.lines } }
     {
         self.lines.discard(place, size);
@@ -173,8 +173,8 @@ impl Server {
         requires { (conn : ℕ) × IsAt conn place self.old.lines }
         ensures stands { (conn : ℕ) (at : IsAt conn place self.old.lines) (settings : SettingsValue) (state : State) → Represents self.old settings state
             → StandsThere settings conn state at.line result }
-        ensures room { (line : Line) → line_at place self.old.lines ≡ Some line → is_waiting result ≡ true → length line.held < 16384 }
-        ensures size { (line : Line) → line_at place self.old.lines ≡ Some line → HasSize line.held result }
+        ensures room { (line : Line) → line_at place self.old.lines ≡ Some line → is_waiting result ≡ true → length line.buffered < 16384 }
+        ensures size { (line : Line) → line_at place self.old.lines ≡ Some line → HasSize line.buffered result }
         ensures ready { CanAnswerFront result self.old }
         ensures same { self.new ≡ self.old }
     {
@@ -260,8 +260,8 @@ impl Server {
         close: bool,
     )
         requires there { IsAt conn place self.old.lines }
-        requires size { (line : Line) → line_at place self.old.lines ≡ Some line → size ≤ length line.held }
-        ensures lines { self.new ≡ record self.old { lines = if close then forgotten conn self.old.lines else holding conn (drop size) self.old.lines } }
+        requires size { (line : Line) → line_at place self.old.lines ≡ Some line → size ≤ length line.buffered }
+        ensures lines { self.new ≡ record self.old { lines = if close then forgotten conn self.old.lines else buffering conn (drop size) self.old.lines } }
         ensures sent { Added (H.acts host.old) (H.acts host.new) (SentTo (H.moment host.old) (H.moment host.new) (closing conn close)) }
         ensures media { KeepsMedia (H.media host.old) (H.media host.new) }
         ensures extent { H.extent host.new ≡ H.extent host.old }

@@ -14,7 +14,7 @@ ghost use Rattle.slot_store.specs.Layout.{needed_of};
 ghost use Rattle.slot_store.specs.Opening.{Is};
 ghost use Rattle.slot_store.specs.Gates.{Sees};
 ghost use Rattle.slot_journal.specs.Sizes.{slots_of};
-ghost use Rattle.slot_journal.specs.DiskEntries.{Holds};
+ghost use Rattle.slot_journal.specs.DiskEntries.{HasEntries};
 ghost use Rattle.slot_journal.specs.DiskEntries as journal;
 ghost use Rattle.slot_journal.specs.Refused.{Caused};
 ghost use Rattle.slot_journal.specs.declared.fault.JournalFault.TheVariants as faults;
@@ -30,7 +30,7 @@ ghost use Rattle.dots_server.specs.ServerValues.{observers_of, Represents, IsKep
 ghost use Rattle.dots_server.specs.Sessions.{beaten};
 ghost use Rattle.dots_server.specs.Taking.{Took, BrokeOff, Answered, Failing};
 ghost use Rattle.dots_server.specs.Turning.{IsServed, TurnedTo, Wrote, Broke};
-ghost use Rattle.dots_server.specs.Observing.{Tells};
+ghost use Rattle.dots_server.specs.Observing.{MayNotify};
 
 use crate::beating::PeerBeats;
 use crate::gathering::Gatherer;
@@ -104,16 +104,16 @@ impl Server {
     ) -> Result<Self, JournalFault>
         requires early { at < 2 ^ 48 }
         // It represents calm entries, which are what the disk held, and the disk rests with them.
-        ensures begun { IfOk result (λ server. (held : List Entry) × IsKept server settings (restarted settings (begun_from settings held) at) held × (is_calm settings held ≡ true)
-            × ((seen : ℕ → ℕ) → Sees (H.media host.old) seen → Holds settings seen held × RestsWith (H.media host.new) (journal.Represents server.journal settings held))) }
+        ensures begun { IfOk result (λ server. (stored : List Entry) × IsKept server settings (restarted settings (begun_from settings stored) at) stored × (is_calm settings stored ≡ true)
+            × ((seen : ℕ → ℕ) → Sees (H.media host.old) seen → HasEntries settings seen stored × RestsWith (H.media host.new) (journal.Represents server.journal settings stored))) }
         ensures settings { IfOk result (λ server. server.settings ≡ settings) }
         ensures size { OnOk result (needed_of (slots_of settings) ≤ H.extent host.new) }
         ensures refused { IfErr result (λ fault. (seen : ℕ → ℕ) → Sees (H.media host.old) seen → RefusesLedger settings (H.extent host.old) seen (H.media host.new) fault) }
         // A disk that held entries, with nothing pending, holds them at each moment; another stays as it was, where no call of it failed.
-        ensures moments { (seen : ℕ → ℕ) (entries : List Entry) → RestsWith (H.media host.old) (Is seen) → Holds settings seen entries
-            → Leaves (H.media host.old) (H.media host.new) (λ image. Holds settings image entries) }
+        ensures moments { (seen : ℕ → ℕ) (entries : List Entry) → RestsWith (H.media host.old) (Is seen) → HasEntries settings seen entries
+            → Leaves (H.media host.old) (H.media host.new) (λ image. HasEntries settings image entries) }
         ensures unwritten { IfErr result (λ fault. (seen : ℕ → ℕ) → fault ≢ faults.DiskFault → RestsWith (H.media host.old) (Is seen)
-            → RestsWith (H.media host.new) (Is seen) ⊎ ((entries : List Entry) × Holds settings seen entries)) }
+            → RestsWith (H.media host.new) (Is seen) ⊎ ((entries : List Entry) × HasEntries settings seen entries)) }
         ensures extent { H.extent host.new ≡ H.extent host.old }
         ensures cause { Caused (H.Disk.faults host.old) (H.Disk.faults host.new) result }
         ensures beside { H.Disk.beside host.old host.new }
@@ -149,7 +149,7 @@ impl Server {
         ensures size { OnOk result (needed_of (slots_of self.settings) ≤ H.extent host.new) }
         ensures moments { (settings : SettingsValue) (state : State) (entries : List Entry) → IsKept self settings state entries
             → RestsWith (H.media host.old) (journal.Represents self.journal settings entries)
-            → Leaves (H.media host.old) (H.media host.new) (λ image. Holds settings image entries) }
+            → Leaves (H.media host.old) (H.media host.new) (λ image. HasEntries settings image entries) }
         // What a server left is found again: there may be no memory, or the disk may fail, and else nothing is refused.
         ensures found { IfErr result (λ fault. (settings : SettingsValue) (state : State) (entries : List Entry) → IsKept self settings state entries
             → RestsWith (H.media host.old) (journal.Represents self.journal settings entries) → needed_of (slots_of settings) ≤ H.extent host.old → IsFailure fault) }
@@ -198,7 +198,7 @@ impl Server {
             → BrokeOff settings state (event_of got.now.what room.now) got.now.at self.old entries (H.media host.old) (H.media host.new) (H.acts host.old) (H.acts host.new)) }
         // Behind an event by which observers are notified none is due any more; or one is that was passed over, and all are looked at by the
         // next such event.
-        ensures observers { OnOk result (Tells got.now.what → IsKnown (views_of self.new.registry) self.new.watch.due self.new.watch.observers.observed) }
+        ensures observers { OnOk result (MayNotify got.now.what → IsKnown (views_of self.new.registry) self.new.watch.due self.new.watch.observers.observed) }
         ensures adds { Added (H.acts host.old) (H.acts host.new) (λ _. ⊤) }
         ensures settings { self.new.settings ≡ self.old.settings }
         ensures slots { self.new.journal.slots ≡ self.old.journal.slots }
@@ -262,12 +262,12 @@ impl Server {
     {
         let decided = self.decide(peer, datagram);
         self.hear(peer, decided.heard);
-        let outcome = decided.outcome;
-        match self.carry_out(host, peer, outcome.verdict) {
+        let decision = decided.decision;
+        match self.carry_out(host, peer, decision.verdict) {
             Ok(()) => {}
             Err(fault) => return Err(fault),
         }
-        self.observe(peer, outcome.watching);
+        self.observe(peer, decision.watching);
         self.notify(host);
         Ok(())
     }
@@ -359,7 +359,7 @@ impl Server {
                 return Ok(());
             }
             // What shows mitigations is a message by now.
-            Verdict::Shows { .. } => unreachable!(),
+            Verdict::Retrieves { .. } => unreachable!(),
             Verdict::Accept { reply, entry } => {
                 self.keep_entry(host, entry)?;
                 send_to(host, peer, reply.bytes());

@@ -325,11 +325,11 @@ reply_at = made_at second (both_at (within_at 0 0) (counted_at 64))
 abbrev pub entry_from : ℕ × (ℕ × (ℕ × (List ℕ × (MessageKey × (List ℕ × Change))))) → Entry
 entry_from p = record { time = p.0; peer = p.1.0; domain = p.1.1.0; cuid = p.1.1.1.0; key = p.1.1.1.1.0; reply = p.1.1.1.1.1.0; change = p.1.1.1.1.1.1 }
 
-abbrev pub outcome_at : ℕ → List ℕ → Read (MessageKey × (List ℕ × Change))
-outcome_at = both_at key_at (both_at reply_at change_at)
+abbrev pub tail_at : ℕ → List ℕ → Read (MessageKey × (List ℕ × Change))
+tail_at = both_at key_at (both_at reply_at change_at)
 
 unfoldable pub entry_at : ℕ → List ℕ → Read Entry
-entry_at = made_at entry_from (both_at time_at (both_at (number_at w32) (both_at (number_at w16) (both_at (visible_at 0 64) outcome_at))))
+entry_at = made_at entry_from (both_at time_at (both_at (number_at w32) (both_at (number_at w16) (both_at (visible_at 0 64) tail_at))))
 
 -- an entry whose bytes end where the input ends
 abbrev pub alone : ℕ → Entry × List ℕ → Result Entry ℕ

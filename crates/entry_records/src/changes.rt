@@ -1,7 +1,7 @@
 //! Reading access lists, mitigations, session configurations and whole entries.
 
 ghost use Rattle.std.specs.Prelude.{◌≡◌, ◌≢◌, ◌≤◌, ℕ, length, Ok, Err, IfOk, IfErr, OnOk, sum_by};
-ghost use Rattle.entry_records.specs.RecordReading.{Gives, ace_at, acl_at, activation_at, all_targets_at, change_at, conditions_at, outcome_at, config_at, entry_at, family_at, fields_at, granted_at, id_at, items_at, key_at, list_at, optional_at, prefix_at, put_at, record_at, reply_at, target_at, targets_at, values_at, within_at};
+ghost use Rattle.entry_records.specs.RecordReading.{Gives, ace_at, acl_at, activation_at, all_targets_at, change_at, conditions_at, tail_at, config_at, entry_at, family_at, fields_at, granted_at, id_at, items_at, key_at, list_at, optional_at, prefix_at, put_at, record_at, reply_at, target_at, targets_at, values_at, within_at};
 
 use crate::fault::EntryFault;
 use crate::lists::MAX_ITEMS;
@@ -312,8 +312,8 @@ impl Reader<'_> {
     }
 
     /// The message of an entry, the reply that it got, and the change.
-    fn outcome(&mut self) -> Result<(MessageKey, Bytes, Change), EntryFault>
-        ensures value { Gives (λ x. ((x.0, (x.1, x.2)), self.new.rest.now)) result (outcome_at self.old.end self.old.rest.now) }
+    fn tail(&mut self) -> Result<(MessageKey, Bytes, Change), EntryFault>
+        ensures value { Gives (λ x. ((x.0, (x.1, x.2)), self.new.rest.now)) result (tail_at self.old.end self.old.rest.now) }
         ensures end { OnOk result (self.new.end ≡ self.old.end) }
     {
         Ok((self.key()?, self.reply()?, self.change()?))
@@ -328,7 +328,7 @@ impl Reader<'_> {
         let peer = self.u32()?;
         let domain = self.u16()?;
         let cuid = self.cuid()?;
-        let (key, reply, change) = self.outcome()?;
+        let (key, reply, change) = self.tail()?;
         Ok(Entry {
             time,
             peer,

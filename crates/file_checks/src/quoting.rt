@@ -6,13 +6,13 @@ ghost use Rattle.file_checks.specs.Quoting.{escaped, hex_digit, in_quotes, quote
 use dots_lists::NoMemory;
 
 /// The most bytes of a field that are shown.
-const MOST_SHOWN: usize = 128;
+const MOST_QUOTED: usize = 128;
 
 /// Adds the field in quotation marks, its first 128 bytes alone where it has more.
 pub fn add_quoted(text: &mut Vec<u8>, field: &[u8]) -> Result<(), NoMemory>
     ensures { OnOk result (text.new.items ≡ text.old.items ++ quoted field.now) }
 {
-    if field.len() <= MOST_SHOWN {
+    if field.len() <= MOST_QUOTED {
         return add_in_quotes(text, field);
     }
     add_in_quotes(text, front_of(field))?;
@@ -34,7 +34,7 @@ fn front_of(field: &[u8]) -> &[u8]
     requires { 128 < length field.now }
     ensures { result.now ≡ take 128 field.now }
 {
-    &field[..MOST_SHOWN]
+    &field[..MOST_QUOTED]
 }
 
 fn add_in_quotes(text: &mut Vec<u8>, bytes: &[u8]) -> Result<(), NoMemory>

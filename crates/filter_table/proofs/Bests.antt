@@ -14,7 +14,7 @@ use Rattle.prefix_ranks.specs.Ranks.{kind_of, ranked, place_of, slot_of}
 use Rattle.prefix_ranks.specs.Covers.{covers, IsShort}
 use Rattle.prefix_ranks.proofs.Each.{each_insert, each_map, each_weaker}
 use Rattle.prefix_ranks.proofs.Covered.{cover_by}
-use Rattle.filter_table.specs.TableRows.{HeldScrub, rank_of, row_of_scrub}
+use Rattle.filter_table.specs.TableRows.{PlacedScrub, rank_of, row_of_scrub}
 use Rattle.filter_table.specs.Rows.{in_slot}
 use Rattle.filter_table.specs.Best.{greater_of, best, mid_of, mid_in}
 use Rattle.filter_table.proofs.Gathered.{IsStored}
@@ -71,13 +71,13 @@ best-covering packet rows (r ∷ rs) =
 
 -- ---- each row
 
-active_once : (active held rest : Bool) (mid : ℕ) → cond held (cond (active && (held && rest)) (Some mid) None) None ≡ cond (active && (held && rest)) (Some mid) None
+active_once : (active placed rest : Bool) (mid : ℕ) → cond placed (cond (active && (placed && rest)) (Some mid) None) None ≡ cond (active && (placed && rest)) (Some mid) None
 active_once true true rest mid = refl
 active_once true false rest mid = refl
 active_once false true rest mid = refl
 active_once false false rest mid = refl
 
-row_mid : (packet : Packet) (rows : List (Option ScrubRow)) (scrub : HeldScrub) → IsStored rows scrub
+row_mid : (packet : Packet) (rows : List (Option ScrubRow)) (scrub : PlacedScrub) → IsStored rows scrub
     → covered packet rows (rank_of scrub) ≡ cond (scrubs packet scrub.row) (Some scrub.row.mid) None
 row_mid packet rows scrub stored =
     ap (λ (v : Bool). cond v (mid_in packet rows scrub.slot) None)
@@ -85,24 +85,24 @@ row_mid packet rows scrub stored =
     ∙ ap (λ r. cond (holds scrub.row.prefix packet.destination.family packet.destination.number) (mid_of packet r) None) stored.is
     ∙ active_once scrub.row.active (holds scrub.row.prefix packet.destination.family packet.destination.number) (has_protocol scrub.row.protocols packet && has_port scrub.row.ports packet.ports) scrub.row.mid
 
-one_greatest : (packet : Packet) (h : HeldScrub) (held : List HeldScrub) (v : Bool) → scrubs packet h.row ≡ v
-    → greater_of (cond (scrubs packet h.row) (Some h.row.mid) None) (scrubbing_mid packet (map row_of_scrub held)) ≡ scrubbing_mid packet (map row_of_scrub (h ∷ held))
-one_greatest packet h held true is = rw is refl
-one_greatest packet h held false is = rw is refl
+one_greatest : (packet : Packet) (h : PlacedScrub) (placed : List PlacedScrub) (v : Bool) → scrubs packet h.row ≡ v
+    → greater_of (cond (scrubs packet h.row) (Some h.row.mid) None) (scrubbing_mid packet (map row_of_scrub placed)) ≡ scrubbing_mid packet (map row_of_scrub (h ∷ placed))
+one_greatest packet h placed true is = rw is refl
+one_greatest packet h placed false is = rw is refl
 
-best-rows : (packet : Packet) (rows : List (Option ScrubRow)) (held : List HeldScrub) → AllByRecursion (IsStored rows) held
-    → best (covered packet rows) (map rank_of held) ≡ scrubbing_mid packet (map row_of_scrub held)
+best-rows : (packet : Packet) (rows : List (Option ScrubRow)) (placed : List PlacedScrub) → AllByRecursion (IsStored rows) placed
+    → best (covered packet rows) (map rank_of placed) ≡ scrubbing_mid packet (map row_of_scrub placed)
 best-rows packet rows [] stored = refl
-best-rows packet rows (h ∷ held) stored =
-    ap (λ m. greater_of m (best (covered packet rows) (map rank_of held))) (row_mid packet rows h stored.0)
-    ∙ ap (greater_of (cond (scrubs packet h.row) (Some h.row.mid) None)) (best-rows packet rows held stored.1)
-    ∙ one_greatest packet h held (scrubs packet h.row) refl
+best-rows packet rows (h ∷ placed) stored =
+    ap (λ m. greater_of m (best (covered packet rows) (map rank_of placed))) (row_mid packet rows h stored.0)
+    ∙ ap (greater_of (cond (scrubs packet h.row) (Some h.row.mid) None)) (best-rows packet rows placed stored.1)
+    ∙ one_greatest packet h placed (scrubs packet h.row) refl
 
 -- the greatest by the ranks that cover the address is that of the rows
-pub best_is : (packet : Packet) (rows : List (Option ScrubRow)) (held : List HeldScrub) → AllByRecursion (IsStored rows) held
-    → best (mid_in packet rows) (map slot_of (filter (covers packet.destination.family packet.destination.number) (ranked (map rank_of held)))) ≡ scrubbing_mid packet (map row_of_scrub held)
-best_is packet rows held stored =
-    best-covering packet rows (ranked (map rank_of held)) ∙ best-ranked (covered packet rows) (map rank_of held) ∙ best-rows packet rows held stored
+pub best_is : (packet : Packet) (rows : List (Option ScrubRow)) (placed : List PlacedScrub) → AllByRecursion (IsStored rows) placed
+    → best (mid_in packet rows) (map slot_of (filter (covers packet.destination.family packet.destination.number) (ranked (map rank_of placed)))) ≡ scrubbing_mid packet (map row_of_scrub placed)
+best_is packet rows placed stored =
+    best-covering packet rows (ranked (map rank_of placed)) ∙ best-ranked (covered packet rows) (map rank_of placed) ∙ best-rows packet rows placed stored
 
 -- ---- numbers of IPv4 are short
 
@@ -114,8 +114,8 @@ pub each_ranked : (P : Rank → Type 0) (rs : List Rank) → AllByRecursion P rs
 each_ranked P [] all = tt
 each_ranked P (r ∷ rs) all = each_insert P (ranked rs) (place_of r (ranked rs)) r all.0 (each_ranked P rs all.1)
 
-pub ranks_short : (rows : List (Option ScrubRow)) (held : List HeldScrub) → AllByRecursion (IsStored rows) held → AllByRecursion IsShort (ranked (map rank_of held))
-ranks_short rows held stored =
-    each_ranked IsShort (map rank_of held)
-    (each_map IsShort rank_of held
-    (each_weaker (IsStored rows) (λ (h : HeldScrub). IsShort (rank_of h)) (λ h one low. short_by h.row.prefix.family h.row.prefix.length h.row.prefix.number one.prefix.number low) held stored))
+pub ranks_short : (rows : List (Option ScrubRow)) (placed : List PlacedScrub) → AllByRecursion (IsStored rows) placed → AllByRecursion IsShort (ranked (map rank_of placed))
+ranks_short rows placed stored =
+    each_ranked IsShort (map rank_of placed)
+    (each_map IsShort rank_of placed
+    (each_weaker (IsStored rows) (λ (h : PlacedScrub). IsShort (rank_of h)) (λ h one low. short_by h.row.prefix.family h.row.prefix.length h.row.prefix.number one.prefix.number low) placed stored))

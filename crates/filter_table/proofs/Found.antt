@@ -8,7 +8,7 @@ use Rattle.prefix_ranks.specs.declared.rank.Rank.{Rank}
 use Rattle.prefix_ranks.specs.Ranks.{ranked, place_of, is_of_kind, is_of_number}
 use Rattle.prefix_ranks.proofs.Each.{each_insert, each_map, each_both, each_weaker}
 use Rattle.filter_table.specs.declared.turn.Turn.{Turn}
-use Rattle.filter_table.specs.TableRows.{HeldScrub, is_of, is_of_client, row_is_of, without_mitigation}
+use Rattle.filter_table.specs.TableRows.{PlacedScrub, is_of, is_of_client, row_is_of, without_mitigation}
 use Rattle.filter_table.specs.Rows.{in_slot, gathered, passes, slot_is_of, mark_of, marks_of, is_turn, IsTied}
 use Rattle.filter_table.proofs.Gathered.{AreTied, scrub_of, one_tied, length-gathered, IsStored, Reaches, turn_read, default_same}
 use Rattle.filter_table.proofs.Orders.{each_filter}
@@ -35,30 +35,30 @@ each_unfiltered P p (x ∷ xs) all =
       | false ↦ λ is all. (λ yes. absurd (cc), each_unfiltered P p xs all)
     ] refl all
 
-each_unmapped : (P : Rank → Type 0) (of : HeldScrub → Rank) (held : List HeldScrub) → AllByRecursion P (map of held) → AllByRecursion (λ (x : HeldScrub). P (of x)) held
+each_unmapped : (P : Rank → Type 0) (of : PlacedScrub → Rank) (placed : List PlacedScrub) → AllByRecursion P (map of placed) → AllByRecursion (λ (x : PlacedScrub). P (of x)) placed
 each_unmapped P of [] all = tt
-each_unmapped P of (x ∷ held) all = (all.0, each_unmapped P of held all.1)
+each_unmapped P of (x ∷ placed) all = (all.0, each_unmapped P of placed all.1)
 
-each_marked : (P : Rank → Type 0) (domain mid : ℕ) (held : List HeldScrub) → AllByRecursion P (marks_of domain mid (ranked (map mark_of held)))
-    → AllByRecursion (λ (x : HeldScrub). x.row.domain ≡ domain → x.row.mid ≡ mid → P (mark_of x)) held
-each_marked P domain mid held all =
-    each_weaker (λ (x : HeldScrub). is_of_kind domain (mark_of x) ≡ true → is_of_number mid (mark_of x) ≡ true → P (mark_of x))
-    (λ (x : HeldScrub). x.row.domain ≡ domain → x.row.mid ≡ mid → P (mark_of x))
-    (λ x step in_domain of_mid. step (eq-eqb _ _ in_domain) (eq-eqb _ _ of_mid)) held
-    (each_unmapped (λ (r : Rank). is_of_kind domain r ≡ true → is_of_number mid r ≡ true → P r) mark_of held
-    (each_unranked (λ (r : Rank). is_of_kind domain r ≡ true → is_of_number mid r ≡ true → P r) (map mark_of held)
-    (each_unfiltered (λ (r : Rank). is_of_number mid r ≡ true → P r) (is_of_kind domain) (ranked (map mark_of held))
-    (each_unfiltered P (is_of_number mid) (filter (is_of_kind domain) (ranked (map mark_of held))) all))))
+each_marked : (P : Rank → Type 0) (domain mid : ℕ) (placed : List PlacedScrub) → AllByRecursion P (marks_of domain mid (ranked (map mark_of placed)))
+    → AllByRecursion (λ (x : PlacedScrub). x.row.domain ≡ domain → x.row.mid ≡ mid → P (mark_of x)) placed
+each_marked P domain mid placed all =
+    each_weaker (λ (x : PlacedScrub). is_of_kind domain (mark_of x) ≡ true → is_of_number mid (mark_of x) ≡ true → P (mark_of x))
+    (λ (x : PlacedScrub). x.row.domain ≡ domain → x.row.mid ≡ mid → P (mark_of x))
+    (λ x step in_domain of_mid. step (eq-eqb _ _ in_domain) (eq-eqb _ _ of_mid)) placed
+    (each_unmapped (λ (r : Rank). is_of_kind domain r ≡ true → is_of_number mid r ≡ true → P r) mark_of placed
+    (each_unranked (λ (r : Rank). is_of_kind domain r ≡ true → is_of_number mid r ≡ true → P r) (map mark_of placed)
+    (each_unfiltered (λ (r : Rank). is_of_number mid r ≡ true → P r) (is_of_kind domain) (ranked (map mark_of placed))
+    (each_unfiltered P (is_of_number mid) (filter (is_of_kind domain) (ranked (map mark_of placed))) all))))
 
 both : (a b : Bool) → (a && b) ≡ true → (a ≡ true) × (b ≡ true)
 both true b is = (refl, is)
 both false b is = absurd (cc)
 
-pub record InDomain (domain mid : ℕ) (scrub : HeldScrub) : Type 0 where
+pub record InDomain (domain mid : ℕ) (scrub : PlacedScrub) : Type 0 where
   pub domain_is : scrub.row.domain ≡ domain
   pub mid_is : scrub.row.mid ≡ mid
 
-in_domain : (domain : ℕ) (cuid : List ℕ) (mid : ℕ) (x : HeldScrub) → is_of domain cuid mid x ≡ true → InDomain domain mid x
+in_domain : (domain : ℕ) (cuid : List ℕ) (mid : ℕ) (x : PlacedScrub) → is_of domain cuid mid x ≡ true → InDomain domain mid x
 in_domain domain cuid mid x is =
     let parts = both (is_of_client domain cuid x.row.domain x.row.cuid) (x.row.mid == mid) is in
     let client = both (x.row.domain == domain) (bytes_eq x.row.cuid cuid) parts.0 in
@@ -67,28 +67,28 @@ in_domain domain cuid mid x is =
 -- ---- each row of the mitigation has one of the marks
 
 -- what each row has where all have it is had by each
-each_self : (T : HeldScrub → HeldScrub → Type 0) (held : List HeldScrub) → AllByRecursion (λ x. AllByRecursion (T x) held → T x x) held
+each_self : (T : PlacedScrub → PlacedScrub → Type 0) (placed : List PlacedScrub) → AllByRecursion (λ x. AllByRecursion (T x) placed → T x x) placed
 each_self T [] = tt
-each_self T (x ∷ held) = (
+each_self T (x ∷ placed) = (
   λ all. all.0,
-  each_weaker (λ y. AllByRecursion (T y) held → T y y) (λ y. AllByRecursion (T y) (x ∷ held) → T y y) (λ y step all. step all.1) held (each_self T held),
+  each_weaker (λ y. AllByRecursion (T y) placed → T y y) (λ y. AllByRecursion (T y) (x ∷ placed) → T y y) (λ y step all. step all.1) placed (each_self T placed),
 )
 
-abbrev Apart : ℕ → ℕ → HeldScrub → HeldScrub → Type 0
+abbrev Apart : ℕ → ℕ → PlacedScrub → PlacedScrub → Type 0
 Apart domain mid x y = y.row.domain ≡ domain → y.row.mid ≡ mid → x.slot == y.slot ≡ false
 
 not_apart : (slot : ℕ) → slot == slot ≡ false → ⊥
 not_apart slot is = grind arith
 
-pub each_reached : (domain : ℕ) (cuid : List ℕ) (mid : ℕ) (found : List Rank) (held : List HeldScrub) → found ≡ marks_of domain mid (ranked (map mark_of held))
-    → AllByRecursion (Reaches domain cuid mid found) held
-each_reached domain cuid mid found held marked =
-    each_weaker (λ x. AllByRecursion (Apart domain mid x) held → Apart domain mid x x) (Reaches domain cuid mid found)
+pub each_reached : (domain : ℕ) (cuid : List ℕ) (mid : ℕ) (found : List Rank) (placed : List PlacedScrub) → found ≡ marks_of domain mid (ranked (map mark_of placed))
+    → AllByRecursion (Reaches domain cuid mid found) placed
+each_reached domain cuid mid found placed marked =
+    each_weaker (λ x. AllByRecursion (Apart domain mid x) placed → Apart domain mid x x) (Reaches domain cuid mid found)
     (λ x step is none.
     let here = in_domain domain cuid mid x is in
     not_apart x.slot
-    (step (each_marked (λ (r : Rank). x.slot == r.slot ≡ false) domain mid held (subst (AllByRecursion (λ (r : Rank). x.slot == r.slot ≡ false)) marked none)) here.domain_is here.mid_is))
-    held (each_self (Apart domain mid) held)
+    (step (each_marked (λ (r : Rank). x.slot == r.slot ≡ false) domain mid placed (subst (AllByRecursion (λ (r : Rank). x.slot == r.slot ≡ false)) marked none)) here.domain_is here.mid_is))
+    placed (each_self (Apart domain mid) placed)
 
 -- ---- the first mark whose row is one of the mitigation
 
@@ -111,7 +111,7 @@ find_some P p (x ∷ xs) r some all =
       | false ↦ λ is some. find_some P p xs r some all.1
     ] refl some
 
-not_of : (domain : ℕ) (cuid : List ℕ) (mid : ℕ) (rows : List (Option ScrubRow)) (x : HeldScrub) → IsStored rows x
+not_of : (domain : ℕ) (cuid : List ℕ) (mid : ℕ) (rows : List (Option ScrubRow)) (x : PlacedScrub) → IsStored rows x
     → (x.row.domain ≡ domain → x.row.mid ≡ mid → slot_is_of domain cuid mid rows x.slot ≡ false) → is_of domain cuid mid x ≡ false
 not_of domain cuid mid rows x stored marked =
     elim (is_of domain cuid mid x) as (λ v. is_of domain cuid mid x ≡ v → v ≡ false) [
@@ -122,14 +122,14 @@ not_of domain cuid mid rows x stored marked =
     ] refl
 
 -- where none of the marks found is of the mitigation, none of the rows is
-pub none_found : (domain : ℕ) (cuid : List ℕ) (mid : ℕ) (rows : List (Option ScrubRow)) (found : List Rank) (held : List HeldScrub) → AllByRecursion (IsStored rows) held
-    → found ≡ marks_of domain mid (ranked (map mark_of held)) → find (λ (r : Rank). slot_is_of domain cuid mid rows r.slot) found ≡ None
-    → held ≡ filter (λ x. not (is_of domain cuid mid x)) held
-none_found domain cuid mid rows found held stored marked none =
-    all_stay (is_of domain cuid mid) held
-    (each_both (IsStored rows) (λ (x : HeldScrub). x.row.domain ≡ domain → x.row.mid ≡ mid → slot_is_of domain cuid mid rows x.slot ≡ false) (λ x. is_of domain cuid mid x ≡ false)
-    (not_of domain cuid mid rows) held stored
-    (each_marked (λ (r : Rank). slot_is_of domain cuid mid rows r.slot ≡ false) domain mid held
+pub none_found : (domain : ℕ) (cuid : List ℕ) (mid : ℕ) (rows : List (Option ScrubRow)) (found : List Rank) (placed : List PlacedScrub) → AllByRecursion (IsStored rows) placed
+    → found ≡ marks_of domain mid (ranked (map mark_of placed)) → find (λ (r : Rank). slot_is_of domain cuid mid rows r.slot) found ≡ None
+    → placed ≡ filter (λ x. not (is_of domain cuid mid x)) placed
+none_found domain cuid mid rows found placed stored marked none =
+    all_stay (is_of domain cuid mid) placed
+    (each_both (IsStored rows) (λ (x : PlacedScrub). x.row.domain ≡ domain → x.row.mid ≡ mid → slot_is_of domain cuid mid rows x.slot ≡ false) (λ x. is_of domain cuid mid x ≡ false)
+    (not_of domain cuid mid rows) placed stored
+    (each_marked (λ (r : Rank). slot_is_of domain cuid mid rows r.slot ≡ false) domain mid placed
     (subst (AllByRecursion (λ (r : Rank). slot_is_of domain cuid mid rows r.slot ≡ false)) marked (find_none (λ (r : Rank). slot_is_of domain cuid mid rows r.slot) found none))))
 
 -- ---- the turn of a mark
@@ -197,12 +197,12 @@ turn_later t ts mark there =
       | false ↦ omega (arith, there)
     ]
 
-each_turned : (rows : List (Option ScrubRow)) (ts : List Turn) → AreTied rows ts → AllByRecursion (λ (x : HeldScrub). HasTurn ts (mark_of x)) (gathered rows ts)
+each_turned : (rows : List (Option ScrubRow)) (ts : List Turn) → AreTied rows ts → AllByRecursion (λ (x : PlacedScrub). HasTurn ts (mark_of x)) (gathered rows ts)
 each_turned rows [] tied = tt
 each_turned rows (t ∷ ts) tied =
-    subst (AllByRecursion (λ (x : HeldScrub). HasTurn (t ∷ ts) (mark_of x))) (sym (one_tied rows t ts tied.0)) (
+    subst (AllByRecursion (λ (x : PlacedScrub). HasTurn (t ∷ ts) (mark_of x))) (sym (one_tied rows t ts tied.0)) (
       turn_here t ts tied.0.row,
-      each_weaker (λ (x : HeldScrub). HasTurn ts (mark_of x)) (λ (x : HeldScrub). HasTurn (t ∷ ts) (mark_of x)) (λ x. turn_later t ts (mark_of x)) (gathered rows ts) (each_turned rows ts tied.1),
+      each_weaker (λ (x : PlacedScrub). HasTurn ts (mark_of x)) (λ (x : PlacedScrub). HasTurn (t ∷ ts) (mark_of x)) (λ x. turn_later t ts (mark_of x)) (gathered rows ts) (each_turned rows ts tied.1),
     )
 
 each_unit : (xs : List Rank) → AllByRecursion (λ (r : Rank). Unit {0}) xs
@@ -234,8 +234,8 @@ first_passes p (t ∷ ts) d within =
       | false ↦ λ is within. rw (one-add (position_or_len p ts)) (first_passes p ts d (omega (arith, within)))
     ] refl within
 
-abbrev pub GoesAt : ℕ → List ℕ → ℕ → List HeldScrub → ℕ → Type 0
-GoesAt domain cuid mid held at = (at < length held) × (without_mitigation domain cuid mid (remove held at) ≡ without_mitigation domain cuid mid held)
+abbrev pub GoesAt : ℕ → List ℕ → ℕ → List PlacedScrub → ℕ → Type 0
+GoesAt domain cuid mid placed at = (at < length placed) × (without_mitigation domain cuid mid (remove placed at) ≡ without_mitigation domain cuid mid placed)
 
 -- the row of a mark that is found is one of the mitigation
 row_found : (domain : ℕ) (cuid : List ℕ) (mid : ℕ) (rows : List (Option ScrubRow)) (turns : List Turn) (found : List Rank) (mark : Rank) (at : ℕ) → AreTied rows turns

@@ -4,7 +4,7 @@ use Rattle.std.specs.List.{insert, remove, prefix_len, AllByRecursion}
 use Rattle.ip_scope.specs.Prefix.{IsPrefix}
 use Rattle.filter_rows.specs.declared.rows.ScrubRow.{ScrubRow}
 use Rattle.filter_table.specs.declared.turn.Turn.{Turn}
-use Rattle.filter_table.specs.TableRows.{HeldScrub, scrub_in, is_of, is_of_client, row_is_of, row_woken, row_set, woken, scrub_set, row_of_scrub, number_after, renumbered, renumbered_from, place_of_scrub, scrub_at_place, rank_of}
+use Rattle.filter_table.specs.TableRows.{PlacedScrub, scrub_in, is_of, is_of_client, row_is_of, row_woken, row_set, woken, scrub_set, row_of_scrub, number_after, renumbered, renumbered_from, place_of_scrub, scrub_at_place, rank_of}
 use Rattle.filter_table.specs.Rows.{or_empty, in_slot, added, gathered, place_of_turn, turn_at_place, woken_at, woken_in, IsTied}
 use Rattle.prefix_ranks.specs.declared.rank.Rank.{Rank}
 use Rattle.prefix_ranks.proofs.Each.{each_insert, each_remove, each_both}
@@ -12,7 +12,7 @@ use Rattle.prefix_ranks.proofs.Each.{each_insert, each_remove, each_both}
 abbrev pub AreTied : List (Option ScrubRow) → List Turn → Type 0
 AreTied rows turns = AllByRecursion (IsTied rows) turns
 
-abbrev pub scrub_of : Turn → ScrubRow → HeldScrub
+abbrev pub scrub_of : Turn → ScrubRow → PlacedScrub
 scrub_of turn row = record { slot = turn.slot; place = turn.place; row = row }
 
 pub one_tied : (rows : List (Option ScrubRow)) (t : Turn) (ts : List Turn) (tie : IsTied rows t) → gathered rows (t ∷ ts) ≡ scrub_of t tie.row ∷ gathered rows ts
@@ -89,11 +89,11 @@ elsewhere rows (t ∷ ts) slot tied none =
 -- ---- what the rows of turns say
 
 pub places_same : (rows : List (Option ScrubRow)) (ts : List Turn) (place : ℕ) → AreTied rows ts
-    → prefix_len (λ (t : Turn). nat_le t.place place) ts ≡ prefix_len (λ (other : HeldScrub). nat_le other.place place) (gathered rows ts)
+    → prefix_len (λ (t : Turn). nat_le t.place place) ts ≡ prefix_len (λ (other : PlacedScrub). nat_le other.place place) (gathered rows ts)
 places_same rows [] place tied = refl
 places_same rows (t ∷ ts) place tied =
     ap (λ (n : ℕ). cond (nat_le t.place place) (1 + n) 0) (places_same rows ts place tied.1)
-    ∙ sym (ap (prefix_len (λ (other : HeldScrub). nat_le other.place place)) (one_tied rows t ts tied.0))
+    ∙ sym (ap (prefix_len (λ (other : PlacedScrub). nat_le other.place place)) (one_tied rows t ts tied.0))
 
 pub scrub_here : (rows : List (Option ScrubRow)) (ts : List Turn) (slot : ℕ) → AreTied rows ts → IsSome (scrub_in slot (gathered rows ts))
     → option_map row_of_scrub (scrub_in slot (gathered rows ts)) ≡ in_slot rows slot
@@ -108,7 +108,7 @@ scrub_here rows (t ∷ ts) slot tied there =
     ] refl (subst (λ hs. IsSome (scrub_in slot hs)) same there))
 
 -- each row of a turn is the one in its slot
-pub record IsStored (rows : List (Option ScrubRow)) (scrub : HeldScrub) : Type 0 where
+pub record IsStored (rows : List (Option ScrubRow)) (scrub : PlacedScrub) : Type 0 where
   pub is : in_slot rows scrub.slot ≡ Some scrub.row
   pub prefix : IsPrefix scrub.row.prefix
 
@@ -199,7 +199,7 @@ woken_there domain cuid mid active (r ∷ ranks) rows k row is some =
     ] refl
 
 -- each row of the mitigation is in the slot of one of the ranks
-abbrev pub Reaches : ℕ → List ℕ → ℕ → List Rank → HeldScrub → Type 0
+abbrev pub Reaches : ℕ → List ℕ → ℕ → List Rank → PlacedScrub → Type 0
 Reaches domain cuid mid ranks scrub = is_of domain cuid mid scrub ≡ true → AllByRecursion (λ (r : Rank). scrub.slot == r.slot ≡ false) ranks → ⊥
 
 woken_or_same : (domain : ℕ) (cuid : List ℕ) (mid : ℕ) (active : Bool) (ranks : List Rank) (rows : List (Option ScrubRow)) (t : Turn) (tie : IsTied rows t)
@@ -224,7 +224,7 @@ gathered-woken domain cuid mid active ranks rows [] tied reach = refl
 gathered-woken domain cuid mid active ranks rows (t ∷ ts) tied reach =
     let all : AllByRecursion (Reaches domain cuid mid ranks) (scrub_of t tied.0.row ∷ gathered rows ts) = subst (AllByRecursion (Reaches domain cuid mid ranks)) (one_tied rows t ts tied.0) reach in
     ap (λ r. added t r (gathered (woken_in domain cuid mid active ranks rows) ts)) (woken_or_same domain cuid mid active ranks rows t tied.0 all.0)
-    ∙ ap (λ (h : HeldScrub). h ∷ gathered (woken_in domain cuid mid active ranks rows) ts) (woken_is domain cuid mid active t tied.0.row)
+    ∙ ap (λ (h : PlacedScrub). h ∷ gathered (woken_in domain cuid mid active ranks rows) ts) (woken_is domain cuid mid active t tied.0.row)
     ∙ ap (λ hs. woken domain cuid mid active (scrub_of t tied.0.row) ∷ hs) (gathered-woken domain cuid mid active ranks rows ts tied.1 all.1)
     ∙ sym (ap (map (woken domain cuid mid active)) (one_tied rows t ts tied.0))
 
@@ -272,6 +272,6 @@ pub tied-renumbered : (rows : List (Option ScrubRow)) (ts : List Turn) → AreTi
 tied-renumbered rows [] tied = tt
 tied-renumbered rows (t ∷ ts) tied = tied_from rows t.place 0 (t ∷ ts) tied
 
-pub some_mapped : (o : Option HeldScrub) → IsSome o → option_map row_of_scrub o ≡ None → ⊥
+pub some_mapped : (o : Option PlacedScrub) → IsSome o → option_map row_of_scrub o ≡ None → ⊥
 some_mapped None there is = absurd (search rules)
 some_mapped (Some x) there is = absurd (cc)

@@ -1,8 +1,8 @@
 -- Lists of rows that stay in order, and ranks that are put in order.
 use Rattle.std.proofs.Common.{◌≡◌, ◌≢◌, ℕ, ◌+◌, ◌≤◌, Bool, true, false, cond, if◌then◌else◌, ◌==◌, nat_le, nat_lt, List, [], ◌∷◌, map, zero, suc, refl, sym, ◌∙◌, arith, one-add, Some, None}
 use Rattle.std.specs.List.{insert, remove, prefix_len, filter, AllByRecursion}
-use Rattle.filter_table.specs.declared.held.HeldAcl.{HeldAcl}
-use Rattle.filter_table.specs.TableRows.{HeldScrub, scrub_in, is_of, scrub_set, acl_set, woken, activated, number_after, renumbered_from, renumbered, place_of_scrub, scrub_at_place}
+use Rattle.filter_table.specs.declared.placed.PlacedAcl.{PlacedAcl}
+use Rattle.filter_table.specs.TableRows.{PlacedScrub, scrub_in, is_of, scrub_set, acl_set, woken, activated, number_after, renumbered_from, renumbered, place_of_scrub, scrub_at_place}
 use Rattle.filter_table.specs.Laws.{AreInOrder, HaveTheirSlots}
 use Rattle.prefix_ranks.specs.Numbers.{Falls}
 use Rattle.prefix_ranks.proofs.Each.{each_insert, each_remove, each_weaker}
@@ -99,17 +99,17 @@ pub order_renumbered : {A : Type 0} → (place : A → ℕ) (at : ℕ → A → 
 order_renumbered place at put [] = tt
 order_renumbered place at put (x ∷ xs) = order_from place at put (place x) 0 (x ∷ xs)
 
-pub woken_place : (domain : ℕ) (cuid : List ℕ) (mid : ℕ) (active : Bool) (x : HeldScrub) → (woken domain cuid mid active x).place ≡ x.place
+pub woken_place : (domain : ℕ) (cuid : List ℕ) (mid : ℕ) (active : Bool) (x : PlacedScrub) → (woken domain cuid mid active x).place ≡ x.place
 woken_place domain cuid mid active x = elim (is_of domain cuid mid x) as (λ v. (if v then scrub_set active x else x).place ≡ x.place) [ true ↦ refl | false ↦ refl ]
 
-pub woken_slot : (domain : ℕ) (cuid : List ℕ) (mid : ℕ) (active : Bool) (x : HeldScrub) → (woken domain cuid mid active x).slot ≡ x.slot
+pub woken_slot : (domain : ℕ) (cuid : List ℕ) (mid : ℕ) (active : Bool) (x : PlacedScrub) → (woken domain cuid mid active x).slot ≡ x.slot
 woken_slot domain cuid mid active x = elim (is_of domain cuid mid x) as (λ v. (if v then scrub_set active x else x).slot ≡ x.slot) [ true ↦ refl | false ↦ refl ]
 
-set_or_not : (b : Bool) (active : Bool) (x : HeldAcl) → (if b then acl_set active x else x).place ≡ x.place
+set_or_not : (b : Bool) (active : Bool) (x : PlacedAcl) → (if b then acl_set active x else x).place ≡ x.place
 set_or_not true active x = refl
 set_or_not false active x = refl
 
-pub activated_place : (domain : ℕ) (cuid : List ℕ) (active : Bool) (x : HeldAcl) → (activated domain cuid active x).place ≡ x.place
+pub activated_place : (domain : ℕ) (cuid : List ℕ) (active : Bool) (x : PlacedAcl) → (activated domain cuid active x).place ≡ x.place
 activated_place domain cuid active x = set_or_not _ active x
 
 -- ---- slots
@@ -117,50 +117,50 @@ activated_place domain cuid active x = set_or_not _ active x
 not_same : (a b : ℕ) → a ≡ b → a == b ≡ false → ⊥
 not_same a b same is = grind arith
 
-differs : (slot : ℕ) (held : List HeldScrub) → scrub_in slot held ≡ None → AllByRecursion (λ (other : HeldScrub). slot ≢ other.slot) held
+differs : (slot : ℕ) (placed : List PlacedScrub) → scrub_in slot placed ≡ None → AllByRecursion (λ (other : PlacedScrub). slot ≢ other.slot) placed
 differs slot [] none = tt
-differs slot (x ∷ held) none =
-    elim (x.slot == slot) as (λ v. x.slot == slot ≡ v → cond v (Some x) (scrub_in slot held) ≡ None → AllByRecursion (λ (other : HeldScrub). slot ≢ other.slot) (x ∷ held)) [
+differs slot (x ∷ placed) none =
+    elim (x.slot == slot) as (λ v. x.slot == slot ≡ v → cond v (Some x) (scrub_in slot placed) ≡ None → AllByRecursion (λ (other : PlacedScrub). slot ≢ other.slot) (x ∷ placed)) [
       | true ↦ λ is none. absurd (cc)
-      | false ↦ λ is none. (λ same. not_same x.slot slot (sym same) is, differs slot held none)
+      | false ↦ λ is none. (λ same. not_same x.slot slot (sym same) is, differs slot placed none)
     ] refl none
 
-apart_insert : (xs : List HeldScrub) (i : ℕ) (x : HeldScrub) → AllByRecursion (λ (other : HeldScrub). x.slot ≢ other.slot) xs → HaveTheirSlots xs → HaveTheirSlots (insert xs i x)
+apart_insert : (xs : List PlacedScrub) (i : ℕ) (x : PlacedScrub) → AllByRecursion (λ (other : PlacedScrub). x.slot ≢ other.slot) xs → HaveTheirSlots xs → HaveTheirSlots (insert xs i x)
 apart_insert [] zero x new apart = (tt, tt)
 apart_insert [] (suc i) x new apart = (tt, tt)
 apart_insert (y ∷ xs) zero x new apart = (new, apart)
 apart_insert (y ∷ xs) (suc i) x new apart =
-    (each_insert (λ (later : HeldScrub). y.slot ≢ later.slot) xs i x (λ same. new.0 (sym same)) apart.0, apart_insert xs i x new.1 apart.1)
+    (each_insert (λ (later : PlacedScrub). y.slot ≢ later.slot) xs i x (λ same. new.0 (sym same)) apart.0, apart_insert xs i x new.1 apart.1)
 
-pub apart_installed : (x : HeldScrub) (xs : List HeldScrub) (i : ℕ) → scrub_in x.slot xs ≡ None → HaveTheirSlots xs → HaveTheirSlots (insert xs i x)
+pub apart_installed : (x : PlacedScrub) (xs : List PlacedScrub) (i : ℕ) → scrub_in x.slot xs ≡ None → HaveTheirSlots xs → HaveTheirSlots (insert xs i x)
 apart_installed x xs i none apart = apart_insert xs i x (differs x.slot xs none) apart
 
-pub apart_filter : (p : HeldScrub → Bool) (xs : List HeldScrub) → HaveTheirSlots xs → HaveTheirSlots (filter p xs)
+pub apart_filter : (p : PlacedScrub → Bool) (xs : List PlacedScrub) → HaveTheirSlots xs → HaveTheirSlots (filter p xs)
 apart_filter p [] apart = apart
 apart_filter p (x ∷ xs) apart =
     elim (p x) as (λ v. HaveTheirSlots (cond v (x ∷ filter p xs) (filter p xs))) [
-      | true ↦ (each_filter (λ (later : HeldScrub). x.slot ≢ later.slot) p xs apart.0, apart_filter p xs apart.1)
+      | true ↦ (each_filter (λ (later : PlacedScrub). x.slot ≢ later.slot) p xs apart.0, apart_filter p xs apart.1)
       | false ↦ apart_filter p xs apart.1
     ]
 
-pub apart_map : (f : HeldScrub → HeldScrub) → ((x : HeldScrub) → (f x).slot ≡ x.slot) → (xs : List HeldScrub) → HaveTheirSlots xs → HaveTheirSlots (map f xs)
+pub apart_map : (f : PlacedScrub → PlacedScrub) → ((x : PlacedScrub) → (f x).slot ≡ x.slot) → (xs : List PlacedScrub) → HaveTheirSlots xs → HaveTheirSlots (map f xs)
 apart_map f same [] apart = apart
 apart_map f same (x ∷ xs) apart = (
-  each_map (λ (later : HeldScrub). x.slot ≢ later.slot) (λ (later : HeldScrub). (f x).slot ≢ later.slot) f
+  each_map (λ (later : PlacedScrub). x.slot ≢ later.slot) (λ (later : PlacedScrub). (f x).slot ≢ later.slot) f
       (λ later differ equal. differ (sym (same x) ∙ equal ∙ same later)) xs apart.0,
   apart_map f same xs apart.1,
 )
 
-differs_from : (slot last number : ℕ) (xs : List HeldScrub) → AllByRecursion (λ (later : HeldScrub). slot ≢ later.slot) xs
-    → AllByRecursion (λ (later : HeldScrub). slot ≢ later.slot) (renumbered_from place_of_scrub scrub_at_place last number xs)
+differs_from : (slot last number : ℕ) (xs : List PlacedScrub) → AllByRecursion (λ (later : PlacedScrub). slot ≢ later.slot) xs
+    → AllByRecursion (λ (later : PlacedScrub). slot ≢ later.slot) (renumbered_from place_of_scrub scrub_at_place last number xs)
 differs_from slot last number [] all = all
 differs_from slot last number (x ∷ xs) all = (all.0, differs_from slot x.place (number_after last number x.place) xs all.1)
 
-apart_from : (last number : ℕ) (xs : List HeldScrub) → HaveTheirSlots xs → HaveTheirSlots (renumbered_from place_of_scrub scrub_at_place last number xs)
+apart_from : (last number : ℕ) (xs : List PlacedScrub) → HaveTheirSlots xs → HaveTheirSlots (renumbered_from place_of_scrub scrub_at_place last number xs)
 apart_from last number [] apart = apart
 apart_from last number (x ∷ xs) apart =
     (differs_from x.slot x.place (number_after last number x.place) xs apart.0, apart_from x.place (number_after last number x.place) xs apart.1)
 
-pub apart_renumbered : (xs : List HeldScrub) → HaveTheirSlots xs → HaveTheirSlots (renumbered place_of_scrub scrub_at_place xs)
+pub apart_renumbered : (xs : List PlacedScrub) → HaveTheirSlots xs → HaveTheirSlots (renumbered place_of_scrub scrub_at_place xs)
 apart_renumbered [] apart = apart
 apart_renumbered (x ∷ xs) apart = apart_from x.place 0 (x ∷ xs) apart

@@ -2,7 +2,7 @@
 use Rattle.std.proofs.Common.{◌≡◌, ℕ, ◌+◌, ◌<◌, ◌≤◌, cond, ◌==◌, List, [], ◌∷◌, map, length, get_or, take, length-take-le, zero, suc, refl, ap, ◌∙◌, arith}
 use Rattle.std.specs.List.{count_by, AllByRecursion}
 use Rattle.std.proofs.lemmas.List.Sums.{sum_by-cons}
-use Rattle.filter_table.specs.TableRows.{HeldScrub, number_after, renumbered_from, renumbered, place_of_scrub, scrub_at_place}
+use Rattle.filter_table.specs.TableRows.{PlacedScrub, number_after, renumbered_from, renumbered, place_of_scrub, scrub_at_place}
 use Rattle.filter_table.specs.Slots.{HasEachSlot}
 
 after_at_most : (last number place : ℕ) → number_after last number place ≤ number + 1
@@ -32,13 +32,13 @@ places_below place_of at put (x ∷ xs) bound most =
 
 -- ---- slots stay
 
-counted_from : (s last number : ℕ) (held : List HeldScrub)
-    → count_by (λ (x : HeldScrub). x.slot == s) (renumbered_from place_of_scrub scrub_at_place last number held) ≡ count_by (λ (x : HeldScrub). x.slot == s) held
+counted_from : (s last number : ℕ) (placed : List PlacedScrub)
+    → count_by (λ (x : PlacedScrub). x.slot == s) (renumbered_from place_of_scrub scrub_at_place last number placed) ≡ count_by (λ (x : PlacedScrub). x.slot == s) placed
 counted_from s last number [] = refl
-counted_from s last number (x ∷ held) =
+counted_from s last number (x ∷ placed) =
     let n = number_after last number x.place in
-    let rest = renumbered_from place_of_scrub scrub_at_place x.place n held in
-    omega (arith, counted_from s x.place n held, sum_by-cons (λ (y : HeldScrub). cond (y.slot == s) 1 0) (scrub_at_place n x) rest, sum_by-cons (λ (y : HeldScrub). cond (y.slot == s) 1 0) x held)
+    let rest = renumbered_from place_of_scrub scrub_at_place x.place n placed in
+    omega (arith, counted_from s x.place n placed, sum_by-cons (λ (y : PlacedScrub). cond (y.slot == s) 1 0) (scrub_at_place n x) rest, sum_by-cons (λ (y : PlacedScrub). cond (y.slot == s) 1 0) x placed)
 
 length_from : {A : Type 0} → (place_of : A → ℕ) (at : ℕ → A → A) (last number : ℕ) (xs : List A) → length (renumbered_from place_of at last number xs) ≡ length xs
 length_from place_of at last number [] = refl
@@ -48,13 +48,13 @@ pub length-renumbered : {A : Type 0} → (place_of : A → ℕ) (at : ℕ → A 
 length-renumbered place_of at [] = refl
 length-renumbered place_of at (x ∷ xs) = length_from place_of at (place_of x) 0 (x ∷ xs)
 
-counted : (s : ℕ) (held : List HeldScrub) → count_by (λ (x : HeldScrub). x.slot == s) (renumbered place_of_scrub scrub_at_place held) ≡ count_by (λ (x : HeldScrub). x.slot == s) held
+counted : (s : ℕ) (placed : List PlacedScrub) → count_by (λ (x : PlacedScrub). x.slot == s) (renumbered place_of_scrub scrub_at_place placed) ≡ count_by (λ (x : PlacedScrub). x.slot == s) placed
 counted s [] = refl
-counted s (x ∷ held) = counted_from s x.place 0 (x ∷ held)
+counted s (x ∷ placed) = counted_from s x.place 0 (x ∷ placed)
 
-pub slots_renumbered : (room : ℕ) (free : List ℕ) (held later : List HeldScrub) → later ≡ renumbered place_of_scrub scrub_at_place held
-    → HasEachSlot room free held → HasEachSlot room free later
-slots_renumbered room free held later rows has = record {
-  once = λ s. omega (arith, has.once s, counted s held, ap (count_by (λ (x : HeldScrub). x.slot == s)) rows);
-  number = omega (arith, has.number, ap length rows, length-renumbered place_of_scrub scrub_at_place held);
+pub slots_renumbered : (room : ℕ) (free : List ℕ) (placed later : List PlacedScrub) → later ≡ renumbered place_of_scrub scrub_at_place placed
+    → HasEachSlot room free placed → HasEachSlot room free later
+slots_renumbered room free placed later rows has = record {
+  once = λ s. omega (arith, has.once s, counted s placed, ap (count_by (λ (x : PlacedScrub). x.slot == s)) rows);
+  number = omega (arith, has.number, ap length rows, length-renumbered place_of_scrub scrub_at_place placed);
 }

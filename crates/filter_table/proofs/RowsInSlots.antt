@@ -10,7 +10,7 @@ use Rattle.prefix_ranks.specs.Ranks.{RankingValue, with_rank, place_of, ranked}
 use Rattle.prefix_ranks.proofs.Order.{commutes}
 use Rattle.prefix_ranks.proofs.Each.{each_insert, each_remove, each_take}
 use Rattle.filter_table.specs.declared.turn.Turn.{Turn}
-use Rattle.filter_table.specs.TableRows.{HeldScrub, rank_of, scrub_in, with_scrub, woken, renumbered, place_of_scrub, scrub_at_place}
+use Rattle.filter_table.specs.TableRows.{PlacedScrub, rank_of, scrub_in, with_scrub, woken, renumbered, place_of_scrub, scrub_at_place}
 use Rattle.filter_table.specs.Laws.{AreInOrder}
 use Rattle.filter_table.specs.Rows.{in_slot, added, gathered, place_of_turn, turn_at_place, mark_of, marks_of, woken_in, IsTied}
 use Rattle.filter_table.specs.Slots.{HasEachSlot, RanksAre, StandInSlots}
@@ -27,11 +27,11 @@ abbrev pub ranking_value : ℕ → List Rank → RankingValue
 ranking_value room ranks = record { room = room; ranks = ranks }
 
 -- the value before, and what a call makes of it
-pub record IsInstalled (room : ℕ) (rows : List (Option ScrubRow)) (turns : List Turn) (free : List ℕ) (ranking marks : RankingValue) (scrub : HeldScrub) (held : List HeldScrub) : Type 0 where
+pub record IsInstalled (room : ℕ) (rows : List (Option ScrubRow)) (turns : List Turn) (free : List ℕ) (ranking marks : RankingValue) (scrub : PlacedScrub) (placed : List PlacedScrub) : Type 0 where
   pub stand : StandInSlots room rows turns free ranking marks
-  pub held_is : gathered rows turns ≡ with_scrub scrub held
+  pub placed_is : gathered rows turns ≡ with_scrub scrub placed
   pub slot_below : scrub.slot < room
-  pub slot_free : scrub_in scrub.slot held ≡ None
+  pub slot_free : scrub_in scrub.slot placed ≡ None
 
 installs : (room : ℕ) (rows : List (Option ScrubRow)) (turns : List Turn) (before free : List ℕ) (ranking after marks more_marks : RankingValue) (place slot at : ℕ) (row : ScrubRow)
     → StandInSlots room rows turns before ranking marks → before ≡ free ++ slot ∷ [] → IsPrefix row.prefix → at ≡ prefix_len (λ (t : Turn). nat_le t.place place) turns
@@ -59,7 +59,7 @@ installs room rows turns before free ranking after marks more_marks place slot a
         marks_are = ranks_installed mark_of room marks more_marks _ (gathered rows turns) _ at (scrub_of (turn_of place slot) row) stand.marks_are refl later marked;
         slots_are = subst (HasEachSlot room free) (sym later) (after_install room before free slot (gathered rows turns) at (scrub_of (turn_of place slot) row) taken refl within stand.slots_are);
       };
-      held_is = later ∙ ap (λ (n : ℕ). insert (gathered rows turns) n (scrub_of (turn_of place slot) row)) (here ∙ places_same rows turns place stand.tied);
+      placed_is = later ∙ ap (λ (n : ℕ). insert (gathered rows turns) n (scrub_of (turn_of place slot) row)) (here ∙ places_same rows turns place stand.tied);
       slot_below = low;
       slot_free = none;
     }
@@ -75,9 +75,9 @@ installs_row room rows later turns more before free ranking after marks more_mar
     (subst (λ ts. IsInstalled room (set rows slot (Some row)) ts free after more_marks (record { slot = slot; place = place; row = row }) (gathered rows turns)) (sym placed)
     (installs room rows turns before free ranking after marks more_marks place slot at row stand taken whole here now marked))
 
-pub record IsChanged (room : ℕ) (rows : List (Option ScrubRow)) (turns : List Turn) (free : List ℕ) (ranking marks : RankingValue) (held : List HeldScrub) : Type 0 where
+pub record IsChanged (room : ℕ) (rows : List (Option ScrubRow)) (turns : List Turn) (free : List ℕ) (ranking marks : RankingValue) (placed : List PlacedScrub) : Type 0 where
   pub stand : StandInSlots room rows turns free ranking marks
-  pub held_is : gathered rows turns ≡ held
+  pub placed_is : gathered rows turns ≡ placed
 
 removes : (room : ℕ) (rows : List (Option ScrubRow)) (turns : List Turn) (free given : List ℕ) (ranking after marks fewer_marks : RankingValue) (at : ℕ) (turn : Turn) (row : ScrubRow)
     → StandInSlots room rows turns free ranking marks → at < length turns → turn ≡ get_or turns at turn → in_slot rows turn.slot ≡ Some row
@@ -104,7 +104,7 @@ removes room rows turns free given ranking after marks fewer_marks at turn row s
         marks_are = ranks_removed mark_of room marks fewer_marks _ (gathered rows turns) _ at (scrub_of turn row) stand.marks_are below read refl later marked;
         slots_are = subst (HasEachSlot room given) (sym later) slots;
       };
-      held_is = later;
+      placed_is = later;
     }
 
 pub removes_row : (room : ℕ) (rows later : List (Option ScrubRow)) (turns fewer : List Turn) (free given : List ℕ) (ranking after marks fewer_marks : RankingValue) (at : ℕ) (turn : Turn) (row : ScrubRow)
@@ -136,7 +136,7 @@ wakes_rows domain cuid mid active room rows later turns free ranking marks found
         marks_are = ranks_stay mark_of (woken domain cuid mid active) (woken_mark domain cuid mid active) room marks (gathered rows turns) _ stand.marks_are change;
         slots_are = slots_stay (woken domain cuid mid active) (woken_slot domain cuid mid active) room free (gathered rows turns) _ stand.slots_are change;
       };
-      held_is = change;
+      placed_is = change;
     }
 
 pub renumbers_rows : (room : ℕ) (rows : List (Option ScrubRow)) (turns later : List Turn) (free : List ℕ) (ranking after marks new_marks : RankingValue)
@@ -154,17 +154,17 @@ renumbers_rows room rows turns later free ranking after marks new_marks stand pl
         marks_are = record { in_order = ap (λ (r : RankingValue). r.ranks) marked; room_is = ap (λ (r : RankingValue). r.room) marked ∙ stand.marks_are.room_is };
         slots_are = slots_renumbered room free (gathered rows turns) (gathered rows later) change stand.slots_are;
       };
-      held_is = change;
+      placed_is = change;
     }
 
 -- ---- all rows ranked, one after the other
 
-pub taken_number : (of : HeldScrub → Rank) (rows : List (Option ScrubRow)) (turns : List Turn) (i : ℕ) → AreTied rows turns → i ≤ length turns → length (ranked (map of (gathered rows (take i turns)))) ≡ i
+pub taken_number : (of : PlacedScrub → Rank) (rows : List (Option ScrubRow)) (turns : List Turn) (i : ℕ) → AreTied rows turns → i ≤ length turns → length (ranked (map of (gathered rows (take i turns)))) ≡ i
 taken_number of rows turns i tied within =
     length-ranked (map of (gathered rows (take i turns))) ∙ length-map (gathered rows (take i turns)) of
     ∙ length-gathered rows (take i turns) (each_take (IsTied rows) i turns tied) ∙ length-take-le i turns within
 
-ranked_more : (of : HeldScrub → Rank) (rows : List (Option ScrubRow)) (turns : List Turn) (i : ℕ) (turn : Turn) (row : ScrubRow) → AreTied rows turns → i < length turns → turn ≡ get_or turns i turn
+ranked_more : (of : PlacedScrub → Rank) (rows : List (Option ScrubRow)) (turns : List Turn) (i : ℕ) (turn : Turn) (row : ScrubRow) → AreTied rows turns → i < length turns → turn ≡ get_or turns i turn
     → in_slot rows turn.slot ≡ Some row
     → with_rank (of (scrub_of turn row)) (ranked (map of (gathered rows (take i turns)))) ≡ ranked (map of (gathered rows (take (suc i) turns)))
 ranked_more of rows [] i turn row tied within is has = absurd (omega (arith, within))
@@ -176,6 +176,6 @@ ranked_more of rows (y ∷ turns) (suc i) turn row tied within is has =
     ∙ ap (with_rank (of (scrub_of y tied.0.row))) (ranked_more of rows turns i turn row tied.1 (omega (arith, within)) is has)
     ∙ sym (ap (λ hs. ranked (map of hs)) (one_tied rows y (take (suc i) turns) tied.0))
 
-pub ranked_next : (of : HeldScrub → Rank) (rows : List (Option ScrubRow)) (turns : List Turn) (i : ℕ) (d : Turn) (row : ScrubRow) → AreTied rows turns → i < length turns → in_slot rows (get_or turns i d).slot ≡ Some row
+pub ranked_next : (of : PlacedScrub → Rank) (rows : List (Option ScrubRow)) (turns : List Turn) (i : ℕ) (d : Turn) (row : ScrubRow) → AreTied rows turns → i < length turns → in_slot rows (get_or turns i d).slot ≡ Some row
     → with_rank (of (scrub_of (get_or turns i d) row)) (ranked (map of (gathered rows (take i turns)))) ≡ ranked (map of (gathered rows (take (suc i) turns)))
 ranked_next of rows turns i d row tied within has = ranked_more of rows turns i (get_or turns i d) row tied within (default_same turns i d within) has

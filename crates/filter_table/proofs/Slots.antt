@@ -8,7 +8,7 @@ use Rattle.std.proofs.lemmas.List.Sums.{sum_by-cons, prefix_len-le-length, sum_b
 use Rattle.std.proofs.lemmas.List.Edits.{length-insert, length-remove}
 use Rattle.prefix_ranks.specs.declared.rank.Rank.{Rank}
 use Rattle.prefix_ranks.specs.Ranks.{RankingValue, is_before, with_rank, ranked, place_of}
-use Rattle.filter_table.specs.TableRows.{HeldScrub, rank_of, ScrubsValue, scrub_in, with_scrub, woken, is_of, scrub_set}
+use Rattle.filter_table.specs.TableRows.{PlacedScrub, rank_of, ScrubsValue, scrub_in, with_scrub, woken, is_of, scrub_set}
 use Rattle.filter_table.specs.Rows.{mark_of}
 use Rattle.filter_table.specs.Slots.{HasEachSlot, RanksAre}
 use Rattle.prefix_ranks.proofs.Each.{map_insert, map_remove}
@@ -18,10 +18,10 @@ abbrev once_at : ℕ → ℕ → ℕ
 once_at s slot = cond (slot == s) 1 0
 
 -- a slot is taken for a row
-pub after_install : (room : ℕ) (before free : List ℕ) (slot : ℕ) (held : List HeldScrub) (i : ℕ) (scrub : HeldScrub)
-    → before ≡ free ++ slot ∷ [] → scrub.slot ≡ slot → i ≤ length held
-    → HasEachSlot room before held → HasEachSlot room free (insert held i scrub)
-after_install room before free slot held i scrub taken is within has = record {
+pub after_install : (room : ℕ) (before free : List ℕ) (slot : ℕ) (placed : List PlacedScrub) (i : ℕ) (scrub : PlacedScrub)
+    → before ≡ free ++ slot ∷ [] → scrub.slot ≡ slot → i ≤ length placed
+    → HasEachSlot room before placed → HasEachSlot room free (insert placed i scrub)
+after_install room before free slot placed i scrub taken is within has = record {
   once = λ s.
       let same : once_at s scrub.slot ≡ once_at s slot = ap (once_at s) is in
       omega (
@@ -30,41 +30,41 @@ after_install room before free slot held i scrub taken is within has = record {
         has.once s,
         ap (count_by (λ other. other == s)) taken,
         sum_by-append (once_at s) free (slot ∷ []),
-        sum_by-insert (λ (x : HeldScrub). once_at s x.slot) held i scrub,
+        sum_by-insert (λ (x : PlacedScrub). once_at s x.slot) placed i scrub,
       );
-  number = omega (arith, has.number, length-insert held i scrub within, ap length taken, length-append free (slot ∷ []));
+  number = omega (arith, has.number, length-insert placed i scrub within, ap length taken, length-append free (slot ∷ []));
 }
 
 one_where : (s slot : ℕ) → slot == s ≡ true → once_at s slot ≡ 1
 one_where s slot is = rw is refl
 
 -- no row stands in a slot that is free
-none_counted : (slot : ℕ) (held : List HeldScrub) → count_by (λ (scrub : HeldScrub). scrub.slot == slot) held ≡ 0 → scrub_in slot held ≡ None
+none_counted : (slot : ℕ) (placed : List PlacedScrub) → count_by (λ (scrub : PlacedScrub). scrub.slot == slot) placed ≡ 0 → scrub_in slot placed ≡ None
 none_counted slot [] none = refl
-none_counted slot (scrub ∷ held) none =
-    let counted : once_at slot scrub.slot + count_by (λ (x : HeldScrub). x.slot == slot) held ≡ 0 = grind (arith, none, common_steps) in
-    elim (scrub.slot == slot) as (λ v. scrub.slot == slot ≡ v → cond v (Some scrub) (scrub_in slot held) ≡ None) [
+none_counted slot (scrub ∷ placed) none =
+    let counted : once_at slot scrub.slot + count_by (λ (x : PlacedScrub). x.slot == slot) placed ≡ 0 = grind (arith, none, common_steps) in
+    elim (scrub.slot == slot) as (λ v. scrub.slot == slot ≡ v → cond v (Some scrub) (scrub_in slot placed) ≡ None) [
       | true ↦ λ is. absurd (omega (arith, counted, one_where slot scrub.slot is))
-      | false ↦ λ is. none_counted slot held (omega (arith, counted))
+      | false ↦ λ is. none_counted slot placed (omega (arith, counted))
     ] refl
 
 below_one : (slot room : ℕ) → cond (nat_lt slot room) 1 0 ≤ 1
 below_one slot room = grind arith
 
-pub none_in : (room : ℕ) (before free : List ℕ) (slot : ℕ) (held : List HeldScrub) → before ≡ free ++ slot ∷ [] → HasEachSlot room before held → scrub_in slot held ≡ None
-none_in room before free slot held taken has =
+pub none_in : (room : ℕ) (before free : List ℕ) (slot : ℕ) (placed : List PlacedScrub) → before ≡ free ++ slot ∷ [] → HasEachSlot room before placed → scrub_in slot placed ≡ None
+none_in room before free slot placed taken has =
     let self : once_at slot slot ≡ 1 = one_where slot slot (eq-eqb _ _ refl) in
-    none_counted slot held (omega (arith, self, has.once slot, below_one slot room, ap (count_by (λ other. other == slot)) taken, sum_by-append (once_at slot) free (slot ∷ [])))
+    none_counted slot placed (omega (arith, self, has.once slot, below_one slot room, ap (count_by (λ other. other == slot)) taken, sum_by-append (once_at slot) free (slot ∷ [])))
 
 -- a slot is given back
-pub after_removal : (room : ℕ) (free : List ℕ) (held : List HeldScrub) (i : ℕ) (scrub : HeldScrub)
-    → i < length held → get_or held i scrub ≡ scrub
-    → HasEachSlot room free held → HasEachSlot room (free ++ scrub.slot ∷ []) (remove held i)
-after_removal room free held i scrub within is has = record {
+pub after_removal : (room : ℕ) (free : List ℕ) (placed : List PlacedScrub) (i : ℕ) (scrub : PlacedScrub)
+    → i < length placed → get_or placed i scrub ≡ scrub
+    → HasEachSlot room free placed → HasEachSlot room (free ++ scrub.slot ∷ []) (remove placed i)
+after_removal room free placed i scrub within is has = record {
   once = λ s.
-      let same : once_at s (get_or held i scrub).slot ≡ once_at s scrub.slot = ap (λ (x : HeldScrub). once_at s x.slot) is in
-      omega (arith, same, has.once s, sum_by-append (once_at s) free (scrub.slot ∷ []), sum_by-remove (λ (x : HeldScrub). once_at s x.slot) held i scrub within);
-  number = omega (arith, has.number, length-remove held i within, length-append free (scrub.slot ∷ []));
+      let same : once_at s (get_or placed i scrub).slot ≡ once_at s scrub.slot = ap (λ (x : PlacedScrub). once_at s x.slot) is in
+      omega (arith, same, has.once s, sum_by-append (once_at s) free (scrub.slot ∷ []), sum_by-remove (λ (x : PlacedScrub). once_at s x.slot) placed i scrub within);
+  number = omega (arith, has.number, length-remove placed i within, length-append free (scrub.slot ∷ []));
 }
 
 -- ---- the first of each slot: no row, and every slot free
@@ -82,107 +82,107 @@ below_more n slots has = λ s.
 
 -- ---- ranks of rows
 
-get-map : (of : HeldScrub → Rank) (held : List HeldScrub) (i : ℕ) (scrub : HeldScrub) → i < length held → get_or held i scrub ≡ scrub → get_or (map of held) i (of scrub) ≡ of scrub
+get-map : (of : PlacedScrub → Rank) (placed : List PlacedScrub) (i : ℕ) (scrub : PlacedScrub) → i < length placed → get_or placed i scrub ≡ scrub → get_or (map of placed) i (of scrub) ≡ of scrub
 get-map of [] i scrub within is = absurd (omega arith)
-get-map of (x ∷ held) zero scrub within is = ap of is
-get-map of (x ∷ held) (suc i) scrub within is = get-map of held i scrub (omega arith) is
+get-map of (x ∷ placed) zero scrub within is = ap of is
+get-map of (x ∷ placed) (suc i) scrub within is = get-map of placed i scrub (omega arith) is
 
 -- the ranks of some rows are those of the others, and of one that is among them
-ranks_split : (of : HeldScrub → Rank) (held : List HeldScrub) (i : ℕ) (scrub : HeldScrub) → i < length held → get_or held i scrub ≡ scrub
-    → ranked (map of held) ≡ with_rank (of scrub) (ranked (map of (remove held i)))
-ranks_split of held i scrub within is =
-    ranked_remove (map of held) i (of scrub) (omega (arith, within, length-map held of)) (get-map of held i scrub within is)
-    ∙ ap (λ rs. with_rank (of scrub) (ranked rs)) (sym (map_remove of held i))
+ranks_split : (of : PlacedScrub → Rank) (placed : List PlacedScrub) (i : ℕ) (scrub : PlacedScrub) → i < length placed → get_or placed i scrub ≡ scrub
+    → ranked (map of placed) ≡ with_rank (of scrub) (ranked (map of (remove placed i)))
+ranks_split of placed i scrub within is =
+    ranked_remove (map of placed) i (of scrub) (omega (arith, within, length-map placed of)) (get-map of placed i scrub within is)
+    ∙ ap (λ rs. with_rank (of scrub) (ranked rs)) (sym (map_remove of placed i))
 
 pub length-ranked : (rs : List Rank) → length (ranked rs) ≡ length rs
 length-ranked [] = refl
 length-ranked (r ∷ rs) = omega (arith, length-insert (ranked rs) (place_of r (ranked rs)) r (prefix_len-le-length (λ other. is_before other r) (ranked rs)), length-ranked rs)
 
-pub length-ranks : (of : HeldScrub → Rank) (ranking : RankingValue) (room : ℕ) (held : List HeldScrub) → RanksAre of ranking room held → length ranking.ranks ≡ length held
-length-ranks of ranking room held are = ap length are.in_order ∙ length-ranked (map of held) ∙ length-map held of
+pub length-ranks : (of : PlacedScrub → Rank) (ranking : RankingValue) (room : ℕ) (placed : List PlacedScrub) → RanksAre of ranking room placed → length ranking.ranks ≡ length placed
+length-ranks of ranking room placed are = ap length are.in_order ∙ length-ranked (map of placed) ∙ length-map placed of
 
 -- ---- what the table keeps, over the values that a call handles
 
 within_by : (slot room : ℕ) → 1 ≤ cond (nat_lt slot room) 1 0 → slot < room
 within_by slot room more = grind arith
 
-pub slot_within : (room : ℕ) (before free : List ℕ) (slot : ℕ) (held : List HeldScrub) → before ≡ free ++ slot ∷ [] → HasEachSlot room before held → slot < room
-slot_within room before free slot held taken has =
+pub slot_within : (room : ℕ) (before free : List ℕ) (slot : ℕ) (placed : List PlacedScrub) → before ≡ free ++ slot ∷ [] → HasEachSlot room before placed → slot < room
+slot_within room before free slot placed taken has =
     let self : once_at slot slot ≡ 1 = one_where slot slot (eq-eqb _ _ refl) in
     within_by slot room (omega (arith, self, has.once slot, ap (count_by (λ other. other == slot)) taken, sum_by-append (once_at slot) free (slot ∷ [])))
 
-pub ranks_installed : (of : HeldScrub → Rank) (room : ℕ) (ranking after : RankingValue) (rank : Rank) (held later : List HeldScrub) (i : ℕ) (scrub : HeldScrub)
-    → RanksAre of ranking room held → rank ≡ of scrub → later ≡ insert held i scrub → after ≡ record { room = ranking.room; ranks = with_rank rank ranking.ranks }
+pub ranks_installed : (of : PlacedScrub → Rank) (room : ℕ) (ranking after : RankingValue) (rank : Rank) (placed later : List PlacedScrub) (i : ℕ) (scrub : PlacedScrub)
+    → RanksAre of ranking room placed → rank ≡ of scrub → later ≡ insert placed i scrub → after ≡ record { room = ranking.room; ranks = with_rank rank ranking.ranks }
     → RanksAre of after room later
-ranks_installed of room ranking after rank held later i scrub are is rows now = record {
+ranks_installed of room ranking after rank placed later i scrub are is rows now = record {
   in_order = ap (λ (r : RankingValue). r.ranks) now ∙ ap (λ r. with_rank r ranking.ranks) is ∙ ap (with_rank (of scrub)) are.in_order
-      ∙ sym (ranked_insert (map of held) i (of scrub)) ∙ ap ranked (sym (map_insert of held i scrub)) ∙ ap (λ hs. ranked (map of hs)) (sym rows);
+      ∙ sym (ranked_insert (map of placed) i (of scrub)) ∙ ap ranked (sym (map_insert of placed i scrub)) ∙ ap (λ hs. ranked (map of hs)) (sym rows);
   room_is = ap (λ (r : RankingValue). r.room) now ∙ are.room_is;
 }
 
-pub rank_there : (of : HeldScrub → Rank) (room : ℕ) (ranking : RankingValue) (rank : Rank) (held : List HeldScrub) (i : ℕ) (scrub : HeldScrub)
-    → RanksAre of ranking room held → i < length held → get_or held i scrub ≡ scrub → rank ≡ of scrub
+pub rank_there : (of : PlacedScrub → Rank) (room : ℕ) (ranking : RankingValue) (rank : Rank) (placed : List PlacedScrub) (i : ℕ) (scrub : PlacedScrub)
+    → RanksAre of ranking room placed → i < length placed → get_or placed i scrub ≡ scrub → rank ≡ of scrub
     → (others : List Rank) × (ranking.ranks ≡ with_rank rank others)
-rank_there of room ranking rank held i scrub are within is ranks = (
-  ranked (map of (remove held i)),
-  are.in_order ∙ ranks_split of held i scrub within is ∙ ap (λ (r : Rank). with_rank r (ranked (map of (remove held i)))) (sym ranks),
+rank_there of room ranking rank placed i scrub are within is ranks = (
+  ranked (map of (remove placed i)),
+  are.in_order ∙ ranks_split of placed i scrub within is ∙ ap (λ (r : Rank). with_rank r (ranked (map of (remove placed i)))) (sym ranks),
 )
 
-pub ranks_removed : (of : HeldScrub → Rank) (room : ℕ) (ranking after : RankingValue) (rank : Rank) (held later : List HeldScrub) (i : ℕ) (scrub : HeldScrub)
-    → RanksAre of ranking room held → i < length held → get_or held i scrub ≡ scrub → rank ≡ of scrub → later ≡ remove held i
+pub ranks_removed : (of : PlacedScrub → Rank) (room : ℕ) (ranking after : RankingValue) (rank : Rank) (placed later : List PlacedScrub) (i : ℕ) (scrub : PlacedScrub)
+    → RanksAre of ranking room placed → i < length placed → get_or placed i scrub ≡ scrub → rank ≡ of scrub → later ≡ remove placed i
     → after ≡ record { room = ranking.room; ranks = remove ranking.ranks (place_of rank ranking.ranks) }
     → RanksAre of after room later
-ranks_removed of room ranking after rank held later i scrub are within is ranks rows now =
-    let rest = ranked (map of (remove held i)) in
-    let split : ranking.ranks ≡ with_rank (of scrub) (ranked (map of (remove held i))) = are.in_order ∙ ranks_split of held i scrub within is in
+ranks_removed of room ranking after rank placed later i scrub are within is ranks rows now =
+    let rest = ranked (map of (remove placed i)) in
+    let split : ranking.ranks ≡ with_rank (of scrub) (ranked (map of (remove placed i))) = are.in_order ∙ ranks_split of placed i scrub within is in
     record {
       in_order = ap (λ (r : RankingValue). r.ranks) now ∙ ap (λ r. remove ranking.ranks (place_of r ranking.ranks)) ranks
           ∙ ap (λ rs. remove rs (place_of (of scrub) rs)) split ∙ taken_back (of scrub) rest ∙ ap (λ hs. ranked (map of hs)) (sym rows);
       room_is = ap (λ (r : RankingValue). r.room) now ∙ are.room_is;
     }
 
-abbrev pub scrubs_value : ℕ → List HeldScrub → ScrubsValue
-scrubs_value room held = record { room = room; held = held }
+abbrev pub scrubs_value : ℕ → List PlacedScrub → ScrubsValue
+scrubs_value room placed = record { room = room; placed = placed }
 
 -- ---- a change of rows that keeps slots, places and prefixes
 
-same_ranks : (of : HeldScrub → Rank) (f : HeldScrub → HeldScrub) → ((x : HeldScrub) → of (f x) ≡ of x) → (held : List HeldScrub) → map of (map f held) ≡ map of held
+same_ranks : (of : PlacedScrub → Rank) (f : PlacedScrub → PlacedScrub) → ((x : PlacedScrub) → of (f x) ≡ of x) → (placed : List PlacedScrub) → map of (map f placed) ≡ map of placed
 same_ranks of f same [] = refl
-same_ranks of f same (x ∷ held) = ap (λ r. r ∷ map of (map f held)) (same x) ∙ ap (λ rs. of x ∷ rs) (same_ranks of f same held)
+same_ranks of f same (x ∷ placed) = ap (λ r. r ∷ map of (map f placed)) (same x) ∙ ap (λ rs. of x ∷ rs) (same_ranks of f same placed)
 
-pub ranks_stay : (of : HeldScrub → Rank) (f : HeldScrub → HeldScrub) → ((x : HeldScrub) → of (f x) ≡ of x) → (room : ℕ) (ranking : RankingValue) (held later : List HeldScrub)
-    → RanksAre of ranking room held → later ≡ map f held → RanksAre of ranking room later
-ranks_stay of f same room ranking held later are rows = record {
-  in_order = are.in_order ∙ ap ranked (sym (ap (map of) rows ∙ same_ranks of f same held));
+pub ranks_stay : (of : PlacedScrub → Rank) (f : PlacedScrub → PlacedScrub) → ((x : PlacedScrub) → of (f x) ≡ of x) → (room : ℕ) (ranking : RankingValue) (placed later : List PlacedScrub)
+    → RanksAre of ranking room placed → later ≡ map f placed → RanksAre of ranking room later
+ranks_stay of f same room ranking placed later are rows = record {
+  in_order = are.in_order ∙ ap ranked (sym (ap (map of) rows ∙ same_ranks of f same placed));
   room_is = are.room_is;
 }
 
-same_counts : (f : HeldScrub → HeldScrub) → ((x : HeldScrub) → (f x).slot ≡ x.slot) → (s : ℕ) (held : List HeldScrub)
-    → count_by (λ (x : HeldScrub). x.slot == s) (map f held) ≡ count_by (λ (x : HeldScrub). x.slot == s) held
+same_counts : (f : PlacedScrub → PlacedScrub) → ((x : PlacedScrub) → (f x).slot ≡ x.slot) → (s : ℕ) (placed : List PlacedScrub)
+    → count_by (λ (x : PlacedScrub). x.slot == s) (map f placed) ≡ count_by (λ (x : PlacedScrub). x.slot == s) placed
 same_counts f same s [] = refl
-same_counts f same s (x ∷ held) =
+same_counts f same s (x ∷ placed) =
     let one : once_at s (f x).slot ≡ once_at s x.slot = ap (once_at s) (same x) in
-    omega (arith, one, same_counts f same s held, sum_by-cons (λ (y : HeldScrub). once_at s y.slot) (f x) (map f held), sum_by-cons (λ (y : HeldScrub). once_at s y.slot) x held)
+    omega (arith, one, same_counts f same s placed, sum_by-cons (λ (y : PlacedScrub). once_at s y.slot) (f x) (map f placed), sum_by-cons (λ (y : PlacedScrub). once_at s y.slot) x placed)
 
-pub slots_stay : (f : HeldScrub → HeldScrub) → ((x : HeldScrub) → (f x).slot ≡ x.slot) → (room : ℕ) (free : List ℕ) (held later : List HeldScrub)
-    → HasEachSlot room free held → later ≡ map f held → HasEachSlot room free later
-slots_stay f same room free held later has rows = record {
-  once = λ s. omega (arith, has.once s, same_counts f same s held, ap (count_by (λ (x : HeldScrub). x.slot == s)) rows);
-  number = omega (arith, has.number, ap length rows, length-map held f);
+pub slots_stay : (f : PlacedScrub → PlacedScrub) → ((x : PlacedScrub) → (f x).slot ≡ x.slot) → (room : ℕ) (free : List ℕ) (placed later : List PlacedScrub)
+    → HasEachSlot room free placed → later ≡ map f placed → HasEachSlot room free later
+slots_stay f same room free placed later has rows = record {
+  once = λ s. omega (arith, has.once s, same_counts f same s placed, ap (count_by (λ (x : PlacedScrub). x.slot == s)) rows);
+  number = omega (arith, has.number, ap length rows, length-map placed f);
 }
 
-pub woken_rank : (domain : ℕ) (cuid : List ℕ) (mid : ℕ) (active : Bool) (x : HeldScrub) → rank_of (woken domain cuid mid active x) ≡ rank_of x
+pub woken_rank : (domain : ℕ) (cuid : List ℕ) (mid : ℕ) (active : Bool) (x : PlacedScrub) → rank_of (woken domain cuid mid active x) ≡ rank_of x
 woken_rank domain cuid mid active x =
     elim (is_of domain cuid mid x) as (λ v. rank_of (if v then scrub_set active x else x) ≡ rank_of x) [ true ↦ refl | false ↦ refl ]
 
-pub woken_mark : (domain : ℕ) (cuid : List ℕ) (mid : ℕ) (active : Bool) (x : HeldScrub) → mark_of (woken domain cuid mid active x) ≡ mark_of x
+pub woken_mark : (domain : ℕ) (cuid : List ℕ) (mid : ℕ) (active : Bool) (x : PlacedScrub) → mark_of (woken domain cuid mid active x) ≡ mark_of x
 woken_mark domain cuid mid active x =
     elim (is_of domain cuid mid x) as (λ v. mark_of (if v then scrub_set active x else x) ≡ mark_of x) [ true ↦ refl | false ↦ refl ]
 
 -- ---- rows taken out one by one
 
 -- one of those that go, taken out before
-pub others_same : (p : HeldScrub → Bool) (xs : List HeldScrub) (i : ℕ) (d : HeldScrub) → i < length xs → p (get_or xs i d) ≡ true
+pub others_same : (p : PlacedScrub → Bool) (xs : List PlacedScrub) (i : ℕ) (d : PlacedScrub) → i < length xs → p (get_or xs i d) ≡ true
     → filter (λ x. not (p x)) (remove xs i) ≡ filter (λ x. not (p x)) xs
 others_same p [] i d within is = absurd (omega (arith, within))
 others_same p (x ∷ xs) zero d within is = let here : p x ≡ true = is in rw here refl
@@ -193,6 +193,6 @@ others_same p (x ∷ xs) (suc i) d within is =
       | false ↦ ap (λ ys. x ∷ ys) same
     ]
 
-pub all_stay : (p : HeldScrub → Bool) (xs : List HeldScrub) → AllByRecursion (λ x. p x ≡ false) xs → xs ≡ filter (λ x. not (p x)) xs
+pub all_stay : (p : PlacedScrub → Bool) (xs : List PlacedScrub) → AllByRecursion (λ x. p x ≡ false) xs → xs ≡ filter (λ x. not (p x)) xs
 all_stay p [] none = refl
 all_stay p (x ∷ xs) none = let here : p x ≡ false = none.0 in rw here (ap (λ ys. x ∷ ys) (all_stay p xs none.1))

@@ -5,7 +5,7 @@ use Rattle.filter_rows.specs.declared.rows.ScrubRow.{ScrubRow}
 use Rattle.prefix_ranks.specs.declared.rank.Rank.{Rank}
 use Rattle.prefix_ranks.specs.Ranks.{is_of_kind, is_of_number}
 use Rattle.filter_table.specs.declared.turn.Turn.{Turn}
-use Rattle.filter_table.specs.TableRows.{HeldScrub, row_is_of, row_woken}
+use Rattle.filter_table.specs.TableRows.{PlacedScrub, row_is_of, row_woken}
 
 abbrev pub or_empty : Option (Option ScrubRow) → Option ScrubRow
 or_empty None = None
@@ -15,12 +15,12 @@ or_empty (Some row) = row
 abbrev pub in_slot : List (Option ScrubRow) → ℕ → Option ScrubRow
 in_slot rows slot = or_empty (slice_get rows slot)
 
-abbrev pub added : Turn → Option ScrubRow → List HeldScrub → List HeldScrub
-added turn None held = held
-added turn (Some row) held = record { slot = turn.slot; place = turn.place; row = row } ∷ held
+abbrev pub added : Turn → Option ScrubRow → List PlacedScrub → List PlacedScrub
+added turn None placed = placed
+added turn (Some row) placed = record { slot = turn.slot; place = turn.place; row = row } ∷ placed
 
 -- the rows of these turns, in their order
-abbrev pub gathered : List (Option ScrubRow) → List Turn → List HeldScrub
+abbrev pub gathered : List (Option ScrubRow) → List Turn → List PlacedScrub
 gathered rows [] = []
 gathered rows (turn ∷ turns) = added turn (in_slot rows turn.slot) (gathered rows turns)
 
@@ -42,7 +42,7 @@ woken_in domain cuid mid active [] rows = rows
 woken_in domain cuid mid active (rank ∷ ranks) rows = woken_in domain cuid mid active ranks (woken_at domain cuid mid active rank.slot rows)
 
 -- the mark of a row: its rank by domain and mid
-abbrev pub mark_of : HeldScrub → Rank
+abbrev pub mark_of : PlacedScrub → Rank
 mark_of scrub = record { kind = scrub.row.domain; number = scrub.row.mid; place = scrub.place; slot = scrub.slot }
 
 -- the marks of this domain and mid

@@ -5,19 +5,19 @@ use Rattle.filter_rows.specs.declared.rows.ScrubRow.{ScrubRow}
 use Rattle.prefix_ranks.specs.declared.rank.Rank.{Rank}
 use Rattle.prefix_ranks.specs.Ranks.{RankingValue, ranked}
 use Rattle.filter_table.specs.declared.turn.Turn.{Turn}
-use Rattle.filter_table.specs.TableRows.{HeldScrub, rank_of}
+use Rattle.filter_table.specs.TableRows.{PlacedScrub, rank_of}
 use Rattle.filter_table.specs.Laws.{AreInOrder}
 use Rattle.filter_table.specs.Rows.{gathered, place_of_turn, mark_of, IsTied}
 
 -- each slot below the room is free or has one row, and there are no others
-pub record HasEachSlot (room : ℕ) (free : List ℕ) (held : List HeldScrub) : Type 0 where
-  pub once : (slot : ℕ) → count_by (λ other. other == slot) free + count_by (λ (scrub : HeldScrub). scrub.slot == slot) held
+pub record HasEachSlot (room : ℕ) (free : List ℕ) (placed : List PlacedScrub) : Type 0 where
+  pub once : (slot : ℕ) → count_by (λ other. other == slot) free + count_by (λ (scrub : PlacedScrub). scrub.slot == slot) placed
       ≡ (if nat_lt slot room then 1 else 0)
-  pub number : length free + length held ≡ room
+  pub number : length free + length placed ≡ room
 
 -- the ranks are those that the rows have by this order
-pub record RanksAre (of : HeldScrub → Rank) (ranking : RankingValue) (room : ℕ) (held : List HeldScrub) : Type 0 where
-  pub in_order : ranking.ranks ≡ ranked (map of held)
+pub record RanksAre (of : PlacedScrub → Rank) (ranking : RankingValue) (room : ℕ) (placed : List PlacedScrub) : Type 0 where
+  pub in_order : ranking.ranks ≡ ranked (map of placed)
   pub room_is : ranking.room ≡ room
 
 -- the turns are in order of place, each has a row, and the ranks and the free slots are those of these rows

@@ -7,10 +7,10 @@ use Rattle.filter_rows.specs.declared.rows.ScrubRow.{ScrubRow}
 use Rattle.filter_rows.specs.declared.rows.AclRow.{AclRow}
 use Rattle.prefix_ranks.specs.declared.rank.Rank.{Rank}
 use Rattle.prefix_ranks.specs.Ranks as order
-use Rattle.filter_table.specs.declared.held.HeldAcl.{HeldAcl}
+use Rattle.filter_table.specs.declared.placed.PlacedAcl.{PlacedAcl}
 
 -- a row of a mitigation, the slot that it stands in, and its place among the others
-pub record HeldScrub : Type 0 where
+pub record PlacedScrub : Type 0 where
   pub slot : ℕ
   pub place : ℕ
   pub row : ScrubRow
@@ -18,12 +18,12 @@ pub record HeldScrub : Type 0 where
 -- the rows of mitigations, in order of place, and how many there may be
 pub record ScrubsValue : Type 0 where
   pub room : ℕ
-  pub held : List HeldScrub
+  pub placed : List PlacedScrub
 
 -- the rows of access lists, in order of place, and how many there may be
 pub record AclsValue : Type 0 where
   pub room : ℕ
-  pub held : List HeldAcl
+  pub placed : List PlacedAcl
 
 -- the client of a row is the one of this name in this domain
 abbrev pub is_of_client : ℕ → List ℕ → ℕ → List ℕ → Bool
@@ -32,22 +32,22 @@ is_of_client domain cuid row_domain row_cuid = (row_domain == domain) && bytes_e
 -- ---- rows of mitigations
 
 -- the row that stands in a slot
-abbrev pub scrub_in : ℕ → List HeldScrub → Option HeldScrub
-scrub_in slot held = find (λ (scrub : HeldScrub). scrub.slot == slot) held
+abbrev pub scrub_in : ℕ → List PlacedScrub → Option PlacedScrub
+scrub_in slot placed = find (λ (scrub : PlacedScrub). scrub.slot == slot) placed
 
 -- one more row, behind those whose place is not greater
-abbrev pub with_scrub : HeldScrub → List HeldScrub → List HeldScrub
-with_scrub scrub held = insert held (prefix_len (λ (other : HeldScrub). nat_le other.place scrub.place) held) scrub
+abbrev pub with_scrub : PlacedScrub → List PlacedScrub → List PlacedScrub
+with_scrub scrub placed = insert placed (prefix_len (λ (other : PlacedScrub). nat_le other.place scrub.place) placed) scrub
 
 abbrev pub row_is_of : ℕ → List ℕ → ℕ → ScrubRow → Bool
 row_is_of domain cuid mid row = is_of_client domain cuid row.domain row.cuid && (row.mid == mid)
 
 -- the row is one of this mitigation
-abbrev pub is_of : ℕ → List ℕ → ℕ → HeldScrub → Bool
+abbrev pub is_of : ℕ → List ℕ → ℕ → PlacedScrub → Bool
 is_of domain cuid mid scrub = is_of_client domain cuid scrub.row.domain scrub.row.cuid && (scrub.row.mid == mid)
 
-abbrev pub without_mitigation : ℕ → List ℕ → ℕ → List HeldScrub → List HeldScrub
-without_mitigation domain cuid mid held = filter (λ scrub. not (is_of domain cuid mid scrub)) held
+abbrev pub without_mitigation : ℕ → List ℕ → ℕ → List PlacedScrub → List PlacedScrub
+without_mitigation domain cuid mid placed = filter (λ scrub. not (is_of domain cuid mid scrub)) placed
 
 abbrev pub row_set : Bool → ScrubRow → ScrubRow
 row_set active row = record {
@@ -63,7 +63,7 @@ row_set active row = record {
 abbrev pub row_woken : ℕ → List ℕ → ℕ → Bool → ScrubRow → ScrubRow
 row_woken domain cuid mid active row = if row_is_of domain cuid mid row then row_set active row else row
 
-abbrev pub scrub_set : Bool → HeldScrub → HeldScrub
+abbrev pub scrub_set : Bool → PlacedScrub → PlacedScrub
 scrub_set active scrub = record {
   slot = scrub.slot;
   place = scrub.place;
@@ -79,52 +79,52 @@ scrub_set active scrub = record {
 }
 
 -- a row of this mitigation is active or not, as said; another is as it was
-abbrev pub woken : ℕ → List ℕ → ℕ → Bool → HeldScrub → HeldScrub
+abbrev pub woken : ℕ → List ℕ → ℕ → Bool → PlacedScrub → PlacedScrub
 woken domain cuid mid active scrub = if is_of domain cuid mid scrub then scrub_set active scrub else scrub
 
-abbrev pub scrub_at_place : ℕ → HeldScrub → HeldScrub
+abbrev pub scrub_at_place : ℕ → PlacedScrub → PlacedScrub
 scrub_at_place place scrub = record { slot = scrub.slot; place = place; row = scrub.row }
 
-abbrev pub place_of_scrub : HeldScrub → ℕ
+abbrev pub place_of_scrub : PlacedScrub → ℕ
 place_of_scrub scrub = scrub.place
 
 -- where its prefix stands among the others
-abbrev pub rank_of : HeldScrub → Rank
+abbrev pub rank_of : PlacedScrub → Rank
 rank_of scrub = order.rank_of scrub.row.prefix scrub.place scrub.slot
 
 -- ---- rows of access lists
 
 -- one more row, behind those whose place is not greater
-abbrev pub with_acl : HeldAcl → List HeldAcl → List HeldAcl
-with_acl list held = insert held (prefix_len (λ (other : HeldAcl). nat_le other.place list.place) held) list
+abbrev pub with_acl : PlacedAcl → List PlacedAcl → List PlacedAcl
+with_acl list placed = insert placed (prefix_len (λ (other : PlacedAcl). nat_le other.place list.place) placed) list
 
 -- the row is that of this client's list of this name
-abbrev pub is_named : ℕ → List ℕ → List ℕ → HeldAcl → Bool
+abbrev pub is_named : ℕ → List ℕ → List ℕ → PlacedAcl → Bool
 is_named domain cuid name list = is_of_client domain cuid list.row.domain list.row.cuid && bytes_eq list.row.acl.name name
 
-abbrev pub without_acl : ℕ → List ℕ → List ℕ → List HeldAcl → List HeldAcl
-without_acl domain cuid name held = filter (λ list. not (is_named domain cuid name list)) held
+abbrev pub without_acl : ℕ → List ℕ → List ℕ → List PlacedAcl → List PlacedAcl
+without_acl domain cuid name placed = filter (λ list. not (is_named domain cuid name list)) placed
 
 abbrev pub waits : Activation → Bool
 waits WhenMitigating = true
 waits Immediate = false
 waits Deactivate = false
 
-abbrev pub acl_set : Bool → HeldAcl → HeldAcl
+abbrev pub acl_set : Bool → PlacedAcl → PlacedAcl
 acl_set active list = record {
   place = list.place;
   row = record { domain = list.row.domain; cuid = list.row.cuid; acl = list.row.acl; active = active };
 }
 
 -- a row of this client whose list is active while the client mitigates is active or not, as said; another is as it was
-abbrev pub activated : ℕ → List ℕ → Bool → HeldAcl → HeldAcl
+abbrev pub activated : ℕ → List ℕ → Bool → PlacedAcl → PlacedAcl
 activated domain cuid active list =
     if is_of_client domain cuid list.row.domain list.row.cuid && waits list.row.acl.activation then acl_set active list else list
 
-abbrev pub acl_at_place : ℕ → HeldAcl → HeldAcl
+abbrev pub acl_at_place : ℕ → PlacedAcl → PlacedAcl
 acl_at_place place list = record { place = place; row = list.row }
 
-abbrev pub place_of_acl : HeldAcl → ℕ
+abbrev pub place_of_acl : PlacedAcl → ℕ
 place_of_acl list = list.place
 
 -- ---- places anew
@@ -145,14 +145,14 @@ renumbered place_of at (x ∷ xs) = renumbered_from place_of at (place_of x) 0 (
 
 -- ---- what a table comes to
 
-abbrev pub row_of_scrub : HeldScrub → ScrubRow
+abbrev pub row_of_scrub : PlacedScrub → ScrubRow
 row_of_scrub scrub = scrub.row
 
-abbrev pub row_of_acl : HeldAcl → AclRow
+abbrev pub row_of_acl : PlacedAcl → AclRow
 row_of_acl list = list.row
 
 abbrev pub is_active : ScrubRow → Bool
 is_active row = row.active
 
-abbrev pub active_rows : List HeldScrub → List ScrubRow
-active_rows held = filter is_active (map row_of_scrub held)
+abbrev pub active_rows : List PlacedScrub → List ScrubRow
+active_rows placed = filter is_active (map row_of_scrub placed)

@@ -6,7 +6,7 @@ ghost use Rattle.filter_rows.specs.HandedOut.{fate_of};
 ghost use Rattle.filter_table.specs.TableRows.{row_of_scrub, row_of_acl};
 ghost use Rattle.dots_settings.specs.Lookups.{prefixes_of};
 
-use crate::held::HeldAcl;
+use crate::placed::PlacedAcl;
 use crate::scrubs::Scrubs;
 use acl_lists::Packet;
 use dots_settings::Settings;
@@ -15,13 +15,13 @@ use ip_scope::Prefix;
 
 /// What the first matching entry of the active access lists says; else the packet is scrubbed for the greatest mid of the active
 /// rows of mitigations that match; else it passes.
-pub fn fate_by_held<'a>(
+pub fn fate_by_placed<'a>(
     settings: &Settings,
     scrubs: &Scrubs,
-    acls: &'a [HeldAcl],
+    acls: &'a [PlacedAcl],
     packet: &Packet,
 ) -> Fate<'a>
-    ensures { fate_of result ≡ fate_by_rows (prefixes_of settings.now) (map row_of_scrub scrubs.now.held) (map row_of_acl acls.now) packet.now }
+    ensures { fate_of result ≡ fate_by_rows (prefixes_of settings.now) (map row_of_scrub scrubs.now.placed) (map row_of_acl acls.now) packet.now }
 {
     if let Some(decided) = decision_of_acls(settings, acls, packet) {
         return decided;
@@ -35,7 +35,7 @@ pub fn fate_by_held<'a>(
 /// What the first active list with an entry that matches says.
 fn decision_of_acls<'a>(
     settings: &Settings,
-    acls: &'a [HeldAcl],
+    acls: &'a [PlacedAcl],
     packet: &Packet,
 ) -> Option<Fate<'a>>
     ensures { option_map fate_of result ≡ decision_of_rows (prefixes_of settings.now) packet.now (map row_of_acl acls.now) }

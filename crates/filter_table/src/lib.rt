@@ -14,7 +14,7 @@
 mod acls;
 mod fates;
 mod greater;
-mod held;
+mod placed;
 pub mod laws;
 mod marks;
 mod rows;
@@ -23,6 +23,6 @@ mod slot_rows;
 mod table;
 mod turn;
 
-pub use held::HeldAcl;
+pub use placed::PlacedAcl;
 pub use rows::{AclRows, ScrubRows};
 pub use table::FilterTable;

@@ -5,7 +5,7 @@ ghost use Rattle.std.specs.Iterator.{YieldsFirstRef, item_count};
 ghost use Rattle.filter_table.specs.TableRows.{row_of_acl, active_rows};
 ghost use Rattle.filter_table.specs.Rows.{gathered, active_in};
 
-use crate::held::HeldAcl;
+use crate::placed::PlacedAcl;
 use crate::slot_rows::row_in;
 use crate::turn::Turn;
 use filter_rows::{AclRow, ScrubRow};
@@ -83,7 +83,7 @@ fn next_active<'a>(
 /// The rows of access lists that are left.
 #[derive(Drop)]
 pub struct AclRows<'a> {
-    left: &'a [HeldAcl],
+    left: &'a [PlacedAcl],
 }
 
 impl<'a> Model for AclRows<'a> {
@@ -98,7 +98,7 @@ impl<'a> Model for AclRows<'a> {
 
 impl<'a> AclRows<'a> {
     /// All of these.
-    pub(crate) fn of(left: &'a [HeldAcl]) -> AclRows<'a>
+    pub(crate) fn of(left: &'a [PlacedAcl]) -> AclRows<'a>
         ensures { result ≡ map row_of_acl left.now }
     {
         AclRows { left }

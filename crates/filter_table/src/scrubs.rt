@@ -9,7 +9,7 @@ ghost use Rattle.filter_table.specs.Laws.{AreInOrder};
 ghost use Rattle.filter_table.specs.Rows.{gathered, place_of_turn, turn_at_place, mark_of, is_turn, IsTied};
 
 use crate::greater::greatest_covered;
-use crate::held::number_after;
+use crate::placed::number_after;
 use crate::marks::{first_of, mark_of, marks_of, wake_marked};
 use crate::rows::ScrubRows;
 use crate::slot_rows::{all_slots, empty_slot, empty_slots, fill_slot, row_in};
@@ -44,7 +44,7 @@ impl Model for Scrubs {
 
     ghost Value = { ScrubsValue };
 
-    ghost view = { λ scrubs. record { room = scrubs.room; held = gathered scrubs.rows.items scrubs.turns.items } };
+    ghost view = { λ scrubs. record { room = scrubs.room; placed = gathered scrubs.rows.items scrubs.turns.items } };
 
     ghost invariant = { λ scrubs.
         StandInSlots scrubs.room scrubs.rows.items scrubs.turns.items scrubs.free.items scrubs.ranking scrubs.marks
@@ -56,7 +56,7 @@ impl Scrubs {
     /// No rows, and room for so many.
     pub fn new(alloc: Global, room: usize) -> Result<Self, NoMemory>
         requires { room < 2 ^ 32 }
-        ensures { IfOk result (λ made. made ≡ record { room = room; held = [] }) }
+        ensures { IfOk result (λ made. made ≡ record { room = room; placed = [] }) }
     {
         Ok(Scrubs {
             rows: empty_slots(alloc, room)?,
@@ -70,17 +70,17 @@ impl Scrubs {
 
     /// Whether there is room for one more row.
     pub fn has_room(&self) -> bool
-        ensures { result ≡ nat_lt (length self.now.held) self.now.room }
+        ensures { result ≡ nat_lt (length self.now.placed) self.now.room }
     {
         self.turns.len() < self.room
     }
 
     /// Puts a row into a free slot, behind those whose place is not greater.
     pub fn install(&mut self, place: u64, row: ScrubRow)
-        requires { length self.old.held < self.old.room }
-        ensures { (slot : ℕ) × (slot < self.old.room) × (scrub_in slot self.old.held ≡ None) × (self.new ≡ record {
+        requires { length self.old.placed < self.old.room }
+        ensures { (slot : ℕ) × (slot < self.old.room) × (scrub_in slot self.old.placed ≡ None) × (self.new ≡ record {
           room = self.old.room;
-          held = with_scrub (record { slot = slot; place = place; row = row }) self.old.held;
+          placed = with_scrub (record { slot = slot; place = place; row = row }) self.old.placed;
         }) }
     {
         let slot = match self.free.pop() {
@@ -96,8 +96,8 @@ impl Scrubs {
 
     /// Takes the row whose turn is at this position out.
     fn take_out(&mut self, at: usize)
-        requires { at < length self.old.held }
-        ensures { self.new ≡ record { room = self.old.room; held = remove self.old.held at } }
+        requires { at < length self.old.placed }
+        ensures { self.new ≡ record { room = self.old.room; placed = remove self.old.placed at } }
     {
         let turn = self.turns.remove(at);
         let row = match empty_slot(&mut self.rows, turn.slot) {
@@ -112,9 +112,9 @@ impl Scrubs {
 
     /// The position of a row of this mitigation.
     fn position_of(&self, domain: u16, cuid: &[u8], mid: u32) -> Option<usize>
-        ensures some { IfSome result (λ at. (at < length self.now.held)
-            × (without_mitigation domain cuid.now mid (remove self.now.held at) ≡ without_mitigation domain cuid.now mid self.now.held)) }
-        ensures none { IfNone result (self.now.held ≡ without_mitigation domain cuid.now mid self.now.held) }
+        ensures some { IfSome result (λ at. (at < length self.now.placed)
+            × (without_mitigation domain cuid.now mid (remove self.now.placed at) ≡ without_mitigation domain cuid.now mid self.now.placed)) }
+        ensures none { IfNone result (self.now.placed ≡ without_mitigation domain cuid.now mid self.now.placed) }
     {
         let marks = marks_of(&self.marks, domain, mid);
         let mark = first_of(marks, self.rows.as_slice(), domain, cuid, mid)?;
@@ -124,9 +124,9 @@ impl Scrubs {
     /// Takes a row of this mitigation out, and says whether there was one.
     fn remove_one(&mut self, domain: u16, cuid: &[u8], mid: u32) -> bool
         ensures room { self.new.room ≡ self.old.room }
-        ensures others { without_mitigation domain cuid.now mid self.new.held ≡ without_mitigation domain cuid.now mid self.old.held }
-        ensures fewer { result ≡ true → length self.new.held < length self.old.held }
-        ensures done { result ≡ false → self.new.held ≡ without_mitigation domain cuid.now mid self.old.held }
+        ensures others { without_mitigation domain cuid.now mid self.new.placed ≡ without_mitigation domain cuid.now mid self.old.placed }
+        ensures fewer { result ≡ true → length self.new.placed < length self.old.placed }
+        ensures done { result ≡ false → self.new.placed ≡ without_mitigation domain cuid.now mid self.old.placed }
     {
         match self.position_of(domain, cuid, mid) {
             Some(at) => {
@@ -139,14 +139,14 @@ impl Scrubs {
 
     /// Takes each row of this mitigation out.
     pub fn remove(&mut self, domain: u16, cuid: &[u8], mid: u32)
-        ensures { self.new ≡ record { room = self.old.room; held = without_mitigation domain cuid.now mid self.old.held } }
+        ensures { self.new ≡ record { room = self.old.room; placed = without_mitigation domain cuid.now mid self.old.placed } }
     {
         while self.remove_one(domain, cuid, mid) {}
     }
 
     /// Says of each row of this mitigation whether it is active.
     pub fn wake(&mut self, domain: u16, cuid: &[u8], mid: u32, active: bool)
-        ensures { self.new ≡ record { room = self.old.room; held = map (woken domain cuid.now mid active) self.old.held } }
+        ensures { self.new ≡ record { room = self.old.room; placed = map (woken domain cuid.now mid active) self.old.placed } }
     {
         let marks = marks_of(&self.marks, domain, mid);
         wake_marked(marks, &mut self.rows, domain, cuid, mid, active);
@@ -154,7 +154,7 @@ impl Scrubs {
 
     /// Gives the rows places from 0 on in their order, equal places staying equal.
     pub fn renumber(&mut self)
-        ensures { self.new ≡ record { room = self.old.room; held = renumbered place_of_scrub scrub_at_place self.old.held } }
+        ensures { self.new ≡ record { room = self.old.room; placed = renumbered place_of_scrub scrub_at_place self.old.placed } }
     {
         renumber_turns(&mut self.turns);
         rank_all(
@@ -167,29 +167,29 @@ impl Scrubs {
 
     /// How many rows there are.
     pub fn len(&self) -> usize
-        ensures { result ≡ length self.now.held }
+        ensures { result ≡ length self.now.placed }
     {
         self.turns.len()
     }
 
     /// The active rows, in order.
     pub fn active(&self) -> ScrubRows<'_>
-        ensures { result ≡ active_rows self.now.held }
+        ensures { result ≡ active_rows self.now.placed }
     {
         ScrubRows::of(self.turns.as_slice(), self.rows.as_slice())
     }
 
     /// The slots of the rows whose prefix has this family and length, in order of the prefix's number and then of place.
     pub fn slots_of(&self, family: Family, length: u8) -> &[u32]
-        ensures { result.now ≡ map slot_of (filter (is_of_kind (kind_of family length)) (ranked (map rank_of self.now.held))) }
+        ensures { result.now ≡ map slot_of (filter (is_of_kind (kind_of family length)) (ranked (map rank_of self.now.placed))) }
     {
         self.ranking.slots_of(kind_of(family, length))
     }
 
     /// The row of a slot.
     pub fn scrub_at(&self, slot: u32) -> &ScrubRow
-        requires { IsSome (scrub_in slot self.now.held) }
-        ensures { option_map row_of_scrub (scrub_in slot self.now.held) ≡ Some result.now }
+        requires { IsSome (scrub_in slot self.now.placed) }
+        ensures { option_map row_of_scrub (scrub_in slot self.now.placed) ≡ Some result.now }
     {
         match row_in(slot, self.rows.as_slice()) {
             Some(row) => row,
@@ -199,7 +199,7 @@ impl Scrubs {
 
     /// The greatest mid of the active rows that match.
     pub fn greatest_mid(&self, packet: &Packet) -> Option<u32>
-        ensures { result ≡ scrubbing_mid packet.now (map row_of_scrub self.now.held) }
+        ensures { result ≡ scrubbing_mid packet.now (map row_of_scrub self.now.placed) }
     {
         let covering = self.ranking.covering(packet.destination);
         greatest_covered(covering, self.rows.as_slice(), packet)

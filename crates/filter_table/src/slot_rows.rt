@@ -5,7 +5,7 @@ ghost use Rattle.filter_table.specs.TableRows.{is_of_client, row_is_of, row_woke
 ghost use Rattle.filter_table.specs.Rows.{in_slot, slot_is_of, woken_at};
 ghost use Rattle.filter_table.specs.Slots.{HasEachSlot};
 
-use crate::held::is_of_client;
+use crate::placed::is_of_client;
 use dots_lists::NoMemory;
 use filter_rows::ScrubRow;
 use std::alloc::Global;

@@ -7,7 +7,7 @@ ghost use Rattle.dots_settings.specs.Lookups.{prefixes_of};
 ghost use Rattle.filter_table.specs.Table.{TableValue, slots_of};
 
 use crate::acls::Acls;
-use crate::fates::fate_by_held;
+use crate::fates::fate_by_placed;
 use crate::rows::{AclRows, ScrubRows};
 use crate::scrubs::Scrubs;
 use acl_lists::Packet;
@@ -36,8 +36,8 @@ impl Model for FilterTable {
     ghost view = { λ table. record {
       scrub_room = table.scrubs.room;
       acl_room = table.acls.room;
-      scrubs = table.scrubs.held;
-      acls = table.acls.held;
+      scrubs = table.scrubs.placed;
+      acls = table.acls.placed;
     } };
 }
 
@@ -151,7 +151,7 @@ impl FilterTable {
         self.scrubs.renumber();
         self.acls.renumber();
         let scrubs = self.scrubs.len();
-        let acls = self.acls.held().len();
+        let acls = self.acls.placed().len();
         scrubs.max(acls) as u64
     }
 
@@ -161,7 +161,7 @@ impl FilterTable {
     pub fn fate<'a>(&'a self, packet: &Packet, settings: &Settings) -> Fate<'a>
         ensures { fate_of result ≡ fate_by_rows (prefixes_of settings.now) (map row_of_scrub self.now.scrubs) (map row_of_acl self.now.acls) packet.now }
     {
-        fate_by_held(settings, &self.scrubs, self.acls.held(), packet)
+        fate_by_placed(settings, &self.scrubs, self.acls.placed(), packet)
     }
 
     /// The active rows of mitigations, in order of place.
@@ -175,7 +175,7 @@ impl FilterTable {
     pub fn acls(&self) -> AclRows<'_>
         ensures { result ≡ map row_of_acl self.now.acls }
     {
-        AclRows::of(self.acls.held())
+        AclRows::of(self.acls.placed())
     }
 
     /// The slots of the rows of mitigations, active or not, whose prefix has this family and length, each once, in order of

@@ -7,7 +7,7 @@ use Rattle.acl_lists.specs.declared.packet.Packet.{Packet}
 use Rattle.filter_rows.specs.declared.rows.ScrubRow.{ScrubRow}
 use Rattle.filter_rows.specs.declared.rows.AclRow.{AclRow}
 use Rattle.filter_rows.specs.Fates.{Fate, fate_by_rows}
-use Rattle.filter_table.specs.declared.held.HeldAcl.{HeldAcl}
+use Rattle.filter_table.specs.declared.placed.PlacedAcl.{PlacedAcl}
 use Rattle.filter_table.specs.Table.{TableValue}
 use Rattle.filter_table.specs.TableRows.{row_of_scrub, row_of_acl}
 use Rattle.dots_settings.specs.Settings.{SettingsValue}
@@ -31,7 +31,7 @@ line_end row = codes " " ++ any_or (texts_of decimal row.protocols) ++ codes " "
 -- ---- access lists
 
 -- the rows of the lists that filter
-abbrev pub active_lists : List HeldAcl → List AclRow
+abbrev pub active_lists : List PlacedAcl → List AclRow
 active_lists held = filter (λ row. row.active) (map row_of_acl held)
 
 -- the text where the test holds, and else none

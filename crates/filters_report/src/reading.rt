@@ -6,7 +6,7 @@ ghost use Rattle.dots_laws.specs.Fits.{last_time, is_calm};
 ghost use Rattle.slot_store.specs.Layout.{needed_of};
 ghost use Rattle.slot_store.specs.Gates.{Sees};
 ghost use Rattle.slot_journal.specs.Sizes.{slots_of};
-ghost use Rattle.slot_journal.specs.DiskEntries.{Holds};
+ghost use Rattle.slot_journal.specs.DiskEntries.{HasEntries};
 ghost use Rattle.slot_journal.specs.Refused.{Caused};
 ghost use Rattle.slot_journal.specs.Untaken.{RefusesLedger, IsFailure};
 ghost use Rattle.dots_machine.specs.Machine.{afresh};
@@ -33,13 +33,13 @@ pub fn report_at<D: Disk>(
     at: u64,
 ) -> Result<Bytes, JournalFault>
     requires early { at < 2 ^ 48 }
-    ensures report { IfOk result (λ text. (entries : List Entry) × ((seen : ℕ → ℕ) → Sees (D.media disk.old) seen → Holds settings.now seen entries)
+    ensures report { IfOk result (λ text. (entries : List Entry) × ((seen : ℕ → ℕ) → Sees (D.media disk.old) seen → HasEntries settings.now seen entries)
         × (text ≡ report_of settings.now (afresh settings.now entries (max at (last_time entries))))) }
 
     // A disk is refused for a cause that it has, and one that holds calm entries isn't refused.
     ensures refused { IfErr result (λ fault. (seen : ℕ → ℕ) → Sees (D.media disk.old) seen
         → RefusesLedger settings.now (D.extent disk.old) seen (D.media disk.new) fault) }
-    ensures complete { IfErr result (λ fault. (seen : ℕ → ℕ) (entries : List Entry) → Sees (D.media disk.old) seen → Holds settings.now seen entries
+    ensures complete { IfErr result (λ fault. (seen : ℕ → ℕ) (entries : List Entry) → Sees (D.media disk.old) seen → HasEntries settings.now seen entries
         → is_calm settings.now entries ≡ true → needed_of (slots_of settings.now) ≤ D.extent disk.old → IsFailure fault) }
     ensures extent { D.extent disk.new ≡ D.extent disk.old }
     ensures cause { Caused (D.faults disk.old) (D.faults disk.new) result }

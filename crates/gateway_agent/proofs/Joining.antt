@@ -14,7 +14,7 @@ use Rattle.gateway_store.proofs.Orders.{number_more, time_more}
 use Rattle.gateway_store.proofs.Young.{is_more, is_same, young_time, number_small}
 use Rattle.gateway_store.proofs.Keeping.{young_with}
 use Rattle.gateway_agent.specs.Keeping.{AreJoined, Counts, IsOneMore, exchanges_in}
-use Rattle.gateway_agent.specs.Turning.{HoldsAlike}
+use Rattle.gateway_agent.specs.Turning.{HasAlike}
 use Rattle.gateway_agent.proofs.Fresh.{IsFresh, fresh_key, fresh_time, fresh_number}
 
 -- ---- young ones at two times
@@ -60,8 +60,8 @@ pub counts_same : (xs : List Exchange) → Counts xs xs
 counts_same xs = record { alike = alike_same (last_time xs) xs; time = refl }
 
 -- an image that holds what counts of these exchanges holds it later too
-pub holds_later : (settings : SettingsValue) (most t u : ℕ) (kept : List Exchange) (image : ℕ → ℕ) → t ≤ u → HoldsAlike settings most t kept image → HoldsAlike settings most u kept image
-holds_later settings most t u kept image le held = record { some = held.some; holds = held.holds; store = held.store; alike = alike_later t u held.some kept le held.alike }
+pub has_later : (settings : SettingsValue) (most t u : ℕ) (kept : List Exchange) (image : ℕ → ℕ) → t ≤ u → HasAlike settings most t kept image → HasAlike settings most u kept image
+has_later settings most t u kept image le held = record { some = held.some; image_has = held.image_has; store = held.store; alike = alike_later t u held.some kept le held.alike }
 
 -- ---- those that wait
 

@@ -14,7 +14,7 @@ use Rattle.dots_gateway.specs.Gateway.{GatewayValue, gateway_at}
 use Rattle.dots_gateway.specs.Routes.{routes_of}
 use Rattle.slot_journal.specs.Sizes.{slots_of}
 use Rattle.slot_journal.proofs.Crashing.{one_history}
-use Rattle.gateway_store.specs.Crashes.{HoldsThe}
+use Rattle.gateway_store.specs.Crashes.{HasThe}
 use Rattle.gateway_store.specs.Exchanges.{IsStore, is_young, young_at, last_time, next_number, most_young}
 use Rattle.gateway_store.specs.Forms.{entries_of}
 use Rattle.gateway_store.specs.Stores.{StoreValue, IsOn}
@@ -26,8 +26,8 @@ use Rattle.gateway_agent.specs.Passing.{GatewayState, begun, opened, restarted, 
 use Rattle.gateway_agent.specs.Keeping.{AgentValue, AreJoined, Counts, IsFor, IsIn, agent}
 use Rattle.gateway_agent.proofs.Joining.{counts_same, in_again, it_waits}
 use Rattle.gateway_agent.proofs.Restarting.{begun_alike}
-use Rattle.gateway_agent.specs.Turning.{HoldsTurn, most_of, time_in}
-use Rattle.gateway_agent.proofs.Runs.{represents_holds, the_holds}
+use Rattle.gateway_agent.specs.Turning.{HasTurn, most_of, time_in}
+use Rattle.gateway_agent.proofs.Runs.{represents_has, has_the}
 
 -- ---- the time
 
@@ -139,10 +139,10 @@ begun_in settings upstream core store at is early now slots same = (
 
 -- what rests on a disk for a store is found there
 pub found_again : (settings : SettingsValue) (old new : StoreValue) (state : GatewayState) (core : GatewayValue) (seen : ℕ → ℕ) → IsIn (agent core old) state → IsOn settings old seen
-    → IsStore (most_young new.journal.slots) new.exchanges → new.journal.slots ≡ old.journal.slots → HoldsThe settings new.exchanges seen → new.exchanges ≡ old.exchanges
+    → IsStore (most_young new.journal.slots) new.exchanges → new.journal.slots ≡ old.journal.slots → HasThe settings new.exchanges seen → new.exchanges ≡ old.exchanges
 found_again settings old new state core seen is on store slots held =
     same_exchanges (most_young old.journal.slots) new.exchanges old.exchanges (subst (λ (s : ℕ). IsStore (most_young s) new.exchanges) slots store) is.joined.order
-    (one_history settings seen (entries_of new.exchanges) (entries_of old.exchanges) held (represents_holds old.journal settings (entries_of old.exchanges) seen on))
+    (one_history settings seen (entries_of new.exchanges) (entries_of old.exchanges) held (represents_has old.journal settings (entries_of old.exchanges) seen on))
 
 -- and the gateway is in the state after the restart
 pub restarted_in : (settings : SettingsValue) (upstream at : ℕ) (core : GatewayValue) (old : StoreValue) (now : AgentValue) (state : GatewayState) → IsFor settings upstream (agent core old) → IsIn (agent core old) state
@@ -168,11 +168,11 @@ restarted_in settings upstream at core old now state of is found begun_it =
     }
 
 -- and a crash on the way leaves what was kept
-pub restart_writes : (settings : SettingsValue) (now : AgentValue) (state : GatewayState) (at : ℕ) (a b : Option Media) → IsIn now state → Leaves a b (HoldsThe settings now.store.exchanges)
-    → Leaves a b (HoldsTurn settings (most_of now) state (restarted state at))
+pub restart_writes : (settings : SettingsValue) (now : AgentValue) (state : GatewayState) (at : ℕ) (a b : Option Media) → IsIn now state → Leaves a b (HasThe settings now.store.exchanges)
+    → Leaves a b (HasTurn settings (most_of now) state (restarted state at))
 restart_writes settings now state at a b is leaves =
-    leaves_as a b (HoldsThe settings now.store.exchanges) (HoldsTurn settings (most_of now) state (restarted state at))
-    (λ image held. inl (the_holds settings (most_of now) now state (time_in (restarted state at)) image is refl (omega arith) held)) leaves
+    leaves_as a b (HasThe settings now.store.exchanges) (HasTurn settings (most_of now) state (restarted state at))
+    (λ image held. inl (has_the settings (most_of now) now state (time_in (restarted state at)) image is refl (omega arith) held)) leaves
 
 -- ---- answers
 

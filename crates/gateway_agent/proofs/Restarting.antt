@@ -23,7 +23,7 @@ use Rattle.gateway_agent.specs.declared.stopping.GatewayHalt.TheVariants as halt
 use Rattle.gateway_agent.specs.declared.stopping.GatewayEnding.TheVariants as ending
 use Rattle.gateway_agent.specs.Passing.{GatewayState, restarted, time_from}
 use Rattle.gateway_agent.specs.Keeping.{AgentValue, Counts, IsIn}
-use Rattle.gateway_agent.specs.Turning.{HoldsTurn, Took, IsTaken, most_of}
+use Rattle.gateway_agent.specs.Turning.{HasTurn, Took, IsTaken, most_of}
 use Rattle.gateway_agent.specs.Running.{StopsFor, EndsFor}
 use Rattle.gateway_agent.proofs.Joining.{counts_at}
 use Rattle.gateway_agent.proofs.Turning.{none_added, keeps_itself}
@@ -82,7 +82,7 @@ begun_alike some kept at counts =
 -- the disk was opened anew, and nothing is sent
 pub restart_took : (settings : SettingsValue) (state : GatewayState) (at : ℕ) (old now : AgentValue) (media media_new : Option Media) (moment : ℕ) (acts acts_new : Option (List Timed))
     → IsIn old state → IsIn now (restarted state at) → IsMoment moment media_new → KeepsActs acts acts_new
-    → (RestsWith media (IsOn settings old.store) → Leaves media media_new (HoldsTurn settings (most_of old) state (restarted state at)))
+    → (RestsWith media (IsOn settings old.store) → Leaves media media_new (HasTurn settings (most_of old) state (restarted state at)))
     → (RestsWith media (IsOn settings old.store) → RestsWith media_new (IsOn settings now.store))
     → Took settings state event.Restart at old now media media_new acts acts_new
 restart_took settings state at old now media media_new moment acts acts_new was is here silent writes rests = record {

@@ -12,24 +12,24 @@ use Rattle.dots_disk.specs.Media.{Media}
 use Rattle.dots_disk.specs.Becoming.{Leaves, RestsWith, KeepsMedia, IsMoment}
 use Rattle.dots_disk.specs.Beside.{KeepsActs}
 use Rattle.slot_store.proofs.Steps.{rests_as}
-use Rattle.slot_journal.proofs.Writing.{holds}
-use Rattle.slot_journal.specs.DiskEntries.{Holds, Represents, records_of}
+use Rattle.slot_journal.proofs.Writing.{image_has}
+use Rattle.slot_journal.specs.DiskEntries.{HasEntries, Represents, records_of}
 use Rattle.slot_store.specs.StoreValues.{JournalValue}
 use Rattle.dots_settings.specs.Settings.{SettingsValue}
 use Rattle.dots_history.specs.declared.entry.Entry.{Entry}
 use Rattle.dots_gateway.specs.declared.exchange.Exchange.{Exchange}
-use Rattle.gateway_store.specs.Crashes.{HoldsThe}
+use Rattle.gateway_store.specs.Crashes.{HasThe}
 use Rattle.gateway_store.specs.Exchanges.{IsStore, last_time}
 use Rattle.gateway_store.specs.Forms.{entries_of}
 use Rattle.gateway_store.specs.Stores.{IsOn}
 use Rattle.gateway_agent.specs.declared.stopping.GatewayHalt.TheVariants as halt
 use Rattle.gateway_agent.specs.Passing.{GatewayState, Passes}
 use Rattle.gateway_agent.specs.Keeping.{AgentValue, IsIn}
-use Rattle.gateway_agent.specs.Turning.{HoldsAlike, HoldsTurn, Turned, Took, most_of, time_in}
+use Rattle.gateway_agent.specs.Turning.{HasAlike, HasTurn, Turned, Took, most_of, time_in}
 use Rattle.gateway_agent.specs.Surviving.{Story, past_of, NoneBefore, MeansAt}
 use Rattle.gateway_agent.specs.Running.{Answer, Stops, HasCome}
 use Rattle.gateway_agent.proofs.Joining.{counts_at}
-use Rattle.gateway_agent.proofs.Surviving.{IsAt, told_by, story_length, story_then, gives_late, none_then, none_earlier, leaves_at_none, leaves_at_past, leaves_past, keeps_past, rests_still, event_on, turn_on, broken_on}
+use Rattle.gateway_agent.proofs.Surviving.{IsAt, shown_by, story_length, story_then, gives_late, none_then, none_earlier, leaves_at_none, leaves_at_past, leaves_past, keeps_past, rests_still, event_on, turn_on, broken_on}
 use Rattle.gateway_agent.proofs.Turning.{none_added, in_time}
 
 -- ---- acts that go on
@@ -77,20 +77,20 @@ timed_at moment what at = record { moment = moment; act = took what at }
 -- ---- stories
 
 -- the sends that are owed
-sends_story : (new : GatewayState) (moment : ℕ) (outs : List OwnedOut) (acts : List Timed) → Gives moment outs acts → Story (owing new outs) acts (told_by (each_telling new outs)) (resting new)
+sends_story : (new : GatewayState) (moment : ℕ) (outs : List OwnedOut) (acts : List Timed) → Gives moment outs acts → Story (owing new outs) acts (shown_by (each_telling new outs)) (resting new)
 sends_story new moment [] [] g = refl
 sends_story new moment [] (timed ∷ acts) g = absurd g
 sends_story new moment (out ∷ outs) [] g = absurd g
 sends_story new moment (out ∷ outs) (timed ∷ acts) g = told timed.act g.1 (sends_story new (moment + 1) outs acts g.2)
   where
-    told : (act : WireAct) → IsSend out act → Story (owing new outs) acts (told_by (each_telling new outs)) (resting new)
-        → Story (owing new (out ∷ outs)) ((record { moment = timed.moment; act = act }) ∷ acts) (new ∷ told_by (each_telling new outs)) (resting new)
+    told : (act : WireAct) → IsSend out act → Story (owing new outs) acts (shown_by (each_telling new outs)) (resting new)
+        → Story (owing new (out ∷ outs)) ((record { moment = timed.moment; act = act }) ∷ acts) (new ∷ shown_by (each_telling new outs)) (resting new)
     told (took e at) s rest = absurd s
     told (gave o d) s rest = (owing new outs, (ap (λ x. (new, x) ∷ each_telling new outs) (sym s), refl), tt, rest)
 
 -- an event that is taken, and its sends
 event_story : (old new : GatewayState) (moment at : ℕ) (what : Event) (outs : List OwnedOut) (sent : ℕ) (acts : List Timed) → Passes old what at outs new → Gives sent outs acts
-    → Story (resting old) (timed_at moment what at ∷ acts) (new ∷ told_by (each_telling new outs)) (resting new)
+    → Story (resting old) (timed_at moment what at ∷ acts) (new ∷ shown_by (each_telling new outs)) (resting new)
 event_story old new moment at what outs sent acts passes gives = (owing new outs, (refl, (outs, refl, passes)), refl, sends_story new sent outs acts gives)
 
 -- an event that is taken, and nothing is sent
@@ -116,27 +116,27 @@ GoesOnTo settings most from to events media media_now Rests trace acts = RunsTo 
 
 -- ---- what lies on the disk
 
-pub represents_holds : (value : JournalValue) (settings : SettingsValue) (entries : List Entry) (image : ℕ → ℕ) → Represents value settings entries image → Holds settings image entries
-represents_holds value settings entries image is = holds settings value.slots image (records_of entries) entries is.slots (record { same = refl; each = is.each }) (inr is.represents.journal)
+pub represents_has : (value : JournalValue) (settings : SettingsValue) (entries : List Entry) (image : ℕ → ℕ) → Represents value settings entries image → HasEntries settings image entries
+represents_has value settings entries image is = image_has settings value.slots image (records_of entries) entries is.slots (record { same = refl; each = is.each }) (inr is.represents.journal)
 
 module _ (settings : SettingsValue) (most : ℕ) where
   -- a store that is told by its exchanges
-  pub the_holds : (now : AgentValue) (state : GatewayState) (t : ℕ) (image : ℕ → ℕ) → IsIn now state → most_of now ≡ most → last_time state.kept ≤ t → HoldsThe settings now.store.exchanges image → HoldsAlike settings most t state.kept image
-  the_holds now state t image is many late held = record {
+  pub has_the : (now : AgentValue) (state : GatewayState) (t : ℕ) (image : ℕ → ℕ) → IsIn now state → most_of now ≡ most → last_time state.kept ≤ t → HasThe settings now.store.exchanges image → HasAlike settings most t state.kept image
+  has_the now state t image is many late held = record {
     some = now.store.exchanges;
-    holds = held;
+    image_has = held;
     store = subst (λ (m : ℕ). IsStore m now.store.exchanges) many is.joined.order;
     alike = counts_at now.store.exchanges state.kept t is.counts late;
   }
 
-  lies_holds : (now : AgentValue) (state : GatewayState) (t : ℕ) (image : ℕ → ℕ) → IsIn now state → most_of now ≡ most → last_time state.kept ≤ t → IsOn settings now.store image → HoldsAlike settings most t state.kept image
-  lies_holds now state t image is many late lies =
-      the_holds now state t image is many late (represents_holds now.store.journal settings (entries_of now.store.exchanges) image lies)
+  lies_has : (now : AgentValue) (state : GatewayState) (t : ℕ) (image : ℕ → ℕ) → IsIn now state → most_of now ≡ most → last_time state.kept ≤ t → IsOn settings now.store image → HasAlike settings most t state.kept image
+  lies_has now state t image is many late lies =
+      has_the now state t image is many late (represents_has now.store.journal settings (entries_of now.store.exchanges) image lies)
 
   pub stored_rests : (now : AgentValue) (state : GatewayState) (t : ℕ) (media : Option Media) → IsIn now state → most_of now ≡ most → last_time state.kept ≤ t
-      → RestsWith media (IsOn settings now.store) → RestsWith media (HoldsAlike settings most t state.kept)
+      → RestsWith media (IsOn settings now.store) → RestsWith media (HasAlike settings most t state.kept)
   stored_rests now state t media is many late rests =
-      rests_as media (IsOn settings now.store) (HoldsAlike settings most t state.kept) (λ image lies. lies_holds now state t image is many late lies) rests
+      rests_as media (IsOn settings now.store) (HasAlike settings most t state.kept) (λ image lies. lies_has now state t image is many late lies) rests
 
   pub own_time : (now : AgentValue) (state : GatewayState) → IsIn now state → last_time state.kept ≤ time_in state
   own_time now state is = subst (λ (t : ℕ). last_time state.kept ≤ t) (ap (λ g. g.exchanges.time) is.core) (in_time now.core now.store state is)
@@ -205,31 +205,31 @@ module _ (settings : SettingsValue) (most : ℕ) where
           moment_is = moment_past turned.moment turned.between (IsOn settings after.store) rests_c turned.is_moment
 
           before_written : past_of b ≤ past_of turned.between
-          before_written = leaves_past b turned.between (IsOn settings now.store) (HoldsTurn settings most old new) (rests_b r) (turned.writes (rests_b r))
+          before_written = leaves_past b turned.between (IsOn settings now.store) (HasTurn settings most old new) (rests_b r) (turned.writes (rests_b r))
 
           sends_late : (more : List Timed) → Turning more → NoneBefore (past_of b) more
           sends_late more gives = gives_late (past_of b) turned.moment outs more (let m = moment_is in let w = before_written in omega (arith, m, w)) gives
 
           -- how the run stands behind it
-          stands_behind : (front more : List Timed) → SoFar front → Turning more → IsAt settings most from new.kept (time_in new) media d (with_more front more) (trace ++ new ∷ told_by (each_telling new outs))
+          stands_behind : (front more : List Timed) → SoFar front → Turning more → IsAt settings most from new.kept (time_in new) media d (with_more front more) (trace ++ new ∷ shown_by (each_telling new outs))
           stands_behind front more lives gives =
-              joined front more (told_by (each_telling new outs)) new.kept d
+              joined front more (shown_by (each_telling new outs)) new.kept d
               (turn_on settings most from old.kept grows.0 new (time_in new) media b turned.between (front ++ event_taken ∷ []) more (trace ++ new ∷ []) outs turned.moment grows.1
               (let m = moment_is in omega (arith, m)) gives (taken_here r front lives)
               (stored_rests now old (time_in new) b is many late (rests_b r)) (turned.writes (rests_b r)) d
               (stored_rests after new (time_in new) turned.between is_now many_now (own_time after new is_now) rests_c) turned.sends)
 
         pub took_on : (xs ys : Option (List Timed)) (later : ℕ) → IsNoEnd (took what at) → Added xs ys SoFar → Adds ys moment zs later (took what at)
-            → Added xs ws (GoesOnTo settings most from new (n + 1) media d Rests (trace ++ new ∷ told_by (each_telling new outs)))
+            → Added xs ws (GoesOnTo settings most from new (n + 1) media d Rests (trace ++ new ∷ shown_by (each_telling new outs)))
         took_on xs ys later goes lives took_it =
-            let Q : List Timed → Type 0 = GoesOnTo settings most from new (n + 1) media d Rests (trace ++ new ∷ told_by (each_telling new outs)) in
+            let Q : List Timed → Type 0 = GoesOnTo settings most from new (n + 1) media d Rests (trace ++ new ∷ shown_by (each_telling new outs)) in
             let R : List Timed → Type 0 = λ more. (rest : List Timed) × (more ≡ event_taken ∷ rest) × Turning rest in
             let one = added_by ys zs moment later (took what at) one_taken took_it refl in
             let both = added_then ys zs ws one_taken Turning R one turned.gives (λ front back f c. (back, ap (λ xs. xs ++ back) f, c)) in
             added_then xs ys ws SoFar R Q lives both (λ front back l s.
             subst (λ es. Q (front ++ es)) (sym s.1) (
               record {
-                story = story_then (resting from) (resting old) (resting new) front (event_taken ∷ s.0) trace (new ∷ told_by (each_telling new outs)) l.0.story
+                story = story_then (resting from) (resting old) (resting new) front (event_taken ∷ s.0) trace (new ∷ shown_by (each_telling new outs)) l.0.story
                     (event_story old new moment at what outs turned.moment s.0 passes s.2);
                 goes_on = go_on_then front (event_taken ∷ s.0) l.0.goes_on (goes, (sends_go_on turned.moment outs s.0 s.2).0);
                 count = let before = l.0.count in let none = (sends_go_on turned.moment outs s.0 s.2).1 in omega (arith, before, none, events_then front (event_taken ∷ s.0));
@@ -239,7 +239,7 @@ module _ (settings : SettingsValue) (most : ℕ) where
 
       -- nothing of it is sent, and the run ends with it: what is written is of the one state or of the other
       pub unsent_on : (outs : List OwnedOut) (how : Answer) (c : Option Media) (xs ys zs vs : Option (List Timed)) (later : ℕ) → Passes old what at outs new → (grows : (fresh : List Exchange) × (new.kept ≡ old.kept ++ fresh))
-          → KeepsActs zs vs → (RestsWith b (IsOn settings now.store) → Leaves b c (HoldsTurn settings most old new))
+          → KeepsActs zs vs → (RestsWith b (IsOn settings now.store) → Leaves b c (HasTurn settings most old new))
           → ((front : List Timed) → GoOn front → Stops how (front ++ event_taken ∷ [])) → Added xs ys SoFar → Adds ys moment zs later (took what at)
           → Added xs vs (HasCome settings most from how media c Rests (trace ++ new ∷ []) (owing new outs))
       unsent_on outs how c xs ys zs vs later passes grows silent writes says lives took_it =
@@ -323,14 +323,14 @@ module _ (settings : SettingsValue) (most : ℕ) (start : GatewayState) (now : A
         many = many;
         rests = λ r. rests_still turned.between d (IsOn settings next.store) (turned.rests (rests_came r)) turned.sends;
         grown = grows_then start.kept lives.state.kept done.new.kept lives.grown done.grows;
-        trace = lives.trace ++ done.new ∷ told_by (each_telling done.new done.outs);
+        trace = lives.trace ++ done.new ∷ shown_by (each_telling done.new done.outs);
         told = took_on settings most start lives.state n moment at what lives.trace first a b now Rests lives.is_in lives.many here lives.rests keeps done.new done.timely done.outs next d zs ws done.is_in many
             done.made done.grows turned xs ys later goes lives.told took_it;
       }
 
   -- an event was taken of which nothing was sent, and the run ends with it
   pub comes_unsent : (how : Answer) (outs : List OwnedOut) (new : GatewayState) (c : Option Media) (vs : Option (List Timed)) → Passes lives.state what at outs new → (grows : (fresh : List Exchange) × (new.kept ≡ lives.state.kept ++ fresh))
-      → last_time lives.state.kept ≤ time_in new → KeepsActs zs vs → (RestsWith b (IsOn settings now.store) → Leaves b c (HoldsTurn settings most lives.state new))
+      → last_time lives.state.kept ≤ time_in new → KeepsActs zs vs → (RestsWith b (IsOn settings now.store) → Leaves b c (HasTurn settings most lives.state new))
       → ((front : List Timed) → GoOn front → Stops how (front ++ timed_at moment what at ∷ []))
       → Added xs vs (HasCome settings most start how first c Rests (lives.trace ++ new ∷ []) (owing new outs))
   comes_unsent how outs new c vs passes grows timely silent writes says =

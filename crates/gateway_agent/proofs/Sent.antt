@@ -14,7 +14,7 @@ use Rattle.gateway_store.specs.Exchanges.{IsStore, is_young, last_number, most_y
 use Rattle.gateway_store.proofs.Orders.{ordered}
 use Rattle.gateway_store.proofs.Young.{number_small}
 use Rattle.gateway_agent.specs.Passing.{GatewayState, opened, step}
-use Rattle.gateway_agent.specs.Sent.{IsHanded, WasSent, HoldsSent}
+use Rattle.gateway_agent.specs.Sent.{IsHanded, WasSent, HasSent}
 use Rattle.gateway_agent.specs.Surviving.{Story, kept_shown, shown, time_at, MeansAt}
 use Rattle.gateway_agent.specs.Turning.{time_in}
 use Rattle.gateway_agent.proofs.Rising.{AreUp, front_more, front_whole, in_front, one_numbered, to_last, up_front, up_ordered, young_from, young_in}
@@ -182,32 +182,32 @@ module _ (settings : SettingsValue) (most upstream m : ℕ) (start : GatewayStat
         is = there.is;
       }
 
-  has : (number : ℕ) (x : Exchange) → WasSent upstream m number acts → Contains end.last.kept x → x.number ≡ number → is_young now x ≡ true → Contains means.holds.some x
+  has : (number : ℕ) (x : Exchange) → WasSent upstream m number acts → Contains end.last.kept x → x.number ≡ number → is_young now x ≡ true → Contains means.image_has.some x
   has number x sent kept is young =
       let there = in_the_front number sent in
       let same = one_numbered 0 end.last.kept there.x x up (in_front means.count end.last.kept there.x there.among) kept (there.is ∙ sym is) in
       let among = subst (Contains front) same there.among in
-      young_from now means.holds.some x (subst (λ (xs : List Exchange). Contains xs x) (sym means.holds.alike.young) (young_in now front x among young))
+      young_from now means.image_has.some x (subst (λ (xs : List Exchange). Contains xs x) (sym means.image_has.alike.young) (young_in now front x among young))
 
   of_kept : (number : ℕ) → WasSent upstream m number acts → (x : Exchange) × Contains end.last.kept x × (x.number ≡ number)
   of_kept number sent = let there = in_the_front number sent in (there.x, in_front means.count end.last.kept there.x there.among, there.is)
 
-  above : (number : ℕ) → WasSent upstream m number acts → number ≤ last_number means.holds.some
+  above : (number : ℕ) → WasSent upstream m number acts → number ≤ last_number means.image_has.some
   above number sent =
       let there = in_the_front number sent in
       let least = to_last 0 front there.x (up_front 0 means.count end.last.kept up) there.among in
       let is = there.is in
-      let same = means.holds.alike.number in
+      let same = means.image_has.alike.number in
       omega (arith, least, is, same)
 
-  pub holds_sent : HoldsSent settings most upstream m now end.last.kept acts image
-  holds_sent = record { some = means.holds.some; holds = means.holds.holds; store = means.holds.store; of = of_kept; has = has; above = above }
+  pub has_sent : HasSent settings most upstream m now end.last.kept acts image
+  has_sent = record { some = means.image_has.some; image_has = means.image_has.image_has; store = means.image_has.store; of = of_kept; has = has; above = above }
 
 -- ---- the law
 
-pub opened_sound : (settings : SettingsValue) (upstream at : ℕ) (held : List Exchange) → IsStore (most_young (slots_of settings)) held
-    → IsSound (opened settings upstream held at).core held
-opened_sound settings upstream at held store =
-    let small = number_small (most_young (slots_of settings)) held store in
-    begun_sound (routes_of settings) upstream (most_young (slots_of settings)) held at
-    (up_ordered 0 0 held (ordered (most_young (slots_of settings)) held store)) (omega (arith, small))
+pub opened_sound : (settings : SettingsValue) (upstream at : ℕ) (stored : List Exchange) → IsStore (most_young (slots_of settings)) stored
+    → IsSound (opened settings upstream stored at).core stored
+opened_sound settings upstream at stored store =
+    let small = number_small (most_young (slots_of settings)) stored store in
+    begun_sound (routes_of settings) upstream (most_young (slots_of settings)) stored at
+    (up_ordered 0 0 stored (ordered (most_young (slots_of settings)) stored store)) (omega (arith, small))

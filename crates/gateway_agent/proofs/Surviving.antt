@@ -14,7 +14,7 @@ use Rattle.slot_store.proofs.Steps.{image_at_rest}
 use Rattle.dots_settings.specs.Settings.{SettingsValue}
 use Rattle.dots_gateway.specs.declared.exchange.Exchange.{Exchange}
 use Rattle.gateway_agent.specs.Passing.{GatewayState, step}
-use Rattle.gateway_agent.specs.Turning.{HoldsAlike, time_in}
+use Rattle.gateway_agent.specs.Turning.{HasAlike, time_in}
 use Rattle.gateway_agent.specs.Surviving.{Story, kept_shown, shown, time_shown, time_at, past_of, NoneBefore, MeansAt, EachFrom, LeavesAt}
 
 -- ---- runs with all that they tell
@@ -39,9 +39,9 @@ story_trace old new (timed ∷ acts) [] s = absurd s
 story_trace old new (timed ∷ acts) (told ∷ trace) s = (s.0, s.1, story_trace s.0 new acts trace s.3)
 
 -- the states that sends tell
-abbrev pub told_by : List (GatewayState × OwnedOut) → List GatewayState
-told_by [] = []
-told_by (send ∷ owed) = send.0 ∷ told_by owed
+abbrev pub shown_by : List (GatewayState × OwnedOut) → List GatewayState
+shown_by [] = []
+shown_by (send ∷ owed) = send.0 ∷ shown_by owed
 
 -- ---- before and after a moment
 
@@ -103,7 +103,7 @@ few_told (took e at) out told b n most s less few = absurd s
 few_told (gave o d) out told true n most s less few = few
 few_told (gave o d) out told false n most s less few = less
 
-shown_sends : (m moment : ℕ) (owed : List (GatewayState × OwnedOut)) (acts : List Timed) (n most : ℕ) → Gives moment (outs_of owed) acts → n ≤ most → TellFew most owed → shown m acts (told_by owed) n ≤ most
+shown_sends : (m moment : ℕ) (owed : List (GatewayState × OwnedOut)) (acts : List Timed) (n most : ℕ) → Gives moment (outs_of owed) acts → n ≤ most → TellFew most owed → shown m acts (shown_by owed) n ≤ most
 shown_sends m moment [] [] n most g less few = less
 shown_sends m moment [] (timed ∷ acts) n most g less few = absurd g
 shown_sends m moment (send ∷ owed) [] n most g less few = absurd g
@@ -116,14 +116,14 @@ no_time_told (took e at) out told b t s = absurd s
 no_time_told (gave o d) out told true t s = refl
 no_time_told (gave o d) out told false t s = refl
 
-time_sends : (m moment : ℕ) (owed : List (GatewayState × OwnedOut)) (acts : List Timed) (t : ℕ) → Gives moment (outs_of owed) acts → time_at m acts (told_by owed) t ≡ t
+time_sends : (m moment : ℕ) (owed : List (GatewayState × OwnedOut)) (acts : List Timed) (t : ℕ) → Gives moment (outs_of owed) acts → time_at m acts (shown_by owed) t ≡ t
 time_sends m moment [] [] t g = refl
 time_sends m moment [] (timed ∷ acts) t g = absurd g
 time_sends m moment (send ∷ owed) [] t g = absurd g
 time_sends m moment (send ∷ owed) (timed ∷ acts) t g =
-    ap (λ u. time_at m acts (told_by owed) u) (no_time_told timed.act send.1 send.0 (nat_lt timed.moment m) t g.1) ∙ time_sends m (moment + 1) owed acts t g.2
+    ap (λ u. time_at m acts (shown_by owed) u) (no_time_told timed.act send.1 send.0 (nat_lt timed.moment m) t g.1) ∙ time_sends m (moment + 1) owed acts t g.2
 
-gives_length : (m : ℕ) (owed : List (GatewayState × OwnedOut)) (acts : List Timed) → Gives m (outs_of owed) acts → length acts ≡ length (told_by owed)
+gives_length : (m : ℕ) (owed : List (GatewayState × OwnedOut)) (acts : List Timed) → Gives m (outs_of owed) acts → length acts ≡ length (shown_by owed)
 gives_length m [] [] g = refl
 gives_length m [] (timed ∷ acts) g = absurd g
 gives_length m (send ∷ owed) [] g = absurd g
@@ -196,7 +196,7 @@ leaves_at_so (Some old) (Some new) P R goes leaves = (
 
 -- an image of a disk at rest has what a read gives
 pub image_rests : (medium : Medium) (image : ℕ → ℕ) (R : (ℕ → ℕ) → Type 0) → medium.pending ≡ [] → R medium.seen → IsImage medium image → R image
-image_rests medium image R none holds is = subst R (sym (fun_ext (image_at_rest medium image none is))) holds
+image_rests medium image R none image_has is = subst R (sym (fun_ext (image_at_rest medium image none is))) image_has
 
 -- a disk that rests, and on which nothing is written, has the same at each moment
 pub rests_on : (old new : Option Media) (R : (ℕ → ℕ) → Type 0) → RestsWith old R → KeepsMedia old new → Leaves old new R
@@ -251,8 +251,8 @@ either_way true n = refl
 either_way false n = refl
 
 module _ (settings : SettingsValue) (most : ℕ) (start : GatewayState) where
-  abbrev HoldsFrom : ℕ → List Exchange → (ℕ → ℕ) → Type 0
-  HoldsFrom t kept image = HoldsAlike settings most t kept image
+  abbrev HasFrom : ℕ → List Exchange → (ℕ → ℕ) → Type 0
+  HasFrom t kept image = HasAlike settings most t kept image
 
   abbrev first_kept : ℕ
   first_kept = length start.kept
@@ -264,8 +264,8 @@ module _ (settings : SettingsValue) (most : ℕ) (start : GatewayState) where
     count = stands.count;
     within = let within = stands.within in let longer = length-append kept extra in omega (arith, within, longer);
     has_shown = subst (λ n. n ≤ stands.count) (sym (shown_then m acts more trace told first_kept same ∙ shown_late m more told (shown m acts trace first_kept) late)) stands.has_shown;
-    holds = subst (λ t. HoldsFrom t (take stands.count (kept ++ extra)) image) (sym (time_then m acts more trace told (time_in start) same ∙ time_late m more told (time_at m acts trace (time_in start)) late))
-        (subst (λ es. HoldsFrom (time_at m acts trace (time_in start)) es image) (sym (take_front stands.count kept extra stands.within)) stands.holds);
+    image_has = subst (λ t. HasFrom t (take stands.count (kept ++ extra)) image) (sym (time_then m acts more trace told (time_in start) same ∙ time_late m more told (time_at m acts trace (time_in start)) late))
+        (subst (λ es. HasFrom (time_at m acts trace (time_in start)) es image) (sym (take_front stands.count kept extra stands.within)) stands.image_has);
   }
 
   -- how a run stands in the middle of an event, with this kept and time: it survived so far
@@ -279,7 +279,7 @@ module _ (settings : SettingsValue) (most : ℕ) (start : GatewayState) where
 
   module _ (acts : List Timed) (trace : List GatewayState) (kept : List Exchange) (first a b : Option Media) (moment at : ℕ) (what : Event) (new : GatewayState)
       (same : length acts ≡ length trace) (bounded : (m : ℕ) → shown m acts trace first_kept ≤ length kept) (here : past_of a ≡ moment)
-      (leaves : LeavesAt first a (MeansAt settings most start acts trace kept)) (rests : RestsWith a (HoldsFrom (time_in new) kept)) (keeps : KeepsMedia a b) where
+      (leaves : LeavesAt first a (MeansAt settings most start acts trace kept)) (rests : RestsWith a (HasFrom (time_in new) kept)) (keeps : KeepsMedia a b) where
     abbrev event_taken : Timed
     event_taken = record { moment = moment; act = took what at }
 
@@ -295,7 +295,7 @@ module _ (settings : SettingsValue) (most : ℕ) (start : GatewayState) where
         ∙ ap (λ b. if b then (time_in new) else time_at m acts trace (time_in start)) (earlier moment m less)
 
     a_to_b : past_of a ≤ past_of b
-    a_to_b = keeps_past a b (HoldsFrom (time_in new) kept) rests keeps
+    a_to_b = keeps_past a b (HasFrom (time_in new) kept) rests keeps
 
     before_taken : LeavesAt first a Taken
     before_taken =
@@ -303,13 +303,13 @@ module _ (settings : SettingsValue) (most : ℕ) (start : GatewayState) where
         subst (λ es. MeansAt settings most start (acts ++ event_taken ∷ []) (trace ++ new ∷ []) es k image) (append-nil kept)
         (older acts (event_taken ∷ []) trace (new ∷ []) kept [] k image same (omega (arith, under, here), tt) stands)) leaves
 
-    still_held : (k : ℕ) → past_of a < k → k ≤ past_of b → (image : ℕ → ℕ) → HoldsFrom (time_in new) kept image → Taken k image
-    still_held k low high image holds = record {
+    still_held : (k : ℕ) → past_of a < k → k ≤ past_of b → (image : ℕ → ℕ) → HasFrom (time_in new) kept image → Taken k image
+    still_held k low high image image_has = record {
       count = length kept;
       within = le_refl (length kept);
       has_shown = subst (λ n. n ≤ length kept) (sym (shown_taken k)) (bounded k);
-      holds = subst (λ t. HoldsFrom t (take (length kept) kept) image) (sym (time_taken k (omega (arith, low, here))))
-          (subst (λ es. HoldsFrom (time_in new) es image) (sym (take_all kept)) holds);
+      image_has = subst (λ t. HasFrom t (take (length kept) kept) image) (sym (time_taken k (omega (arith, low, here))))
+          (subst (λ es. HasFrom (time_in new) es image) (sym (take_all kept)) image_has);
     }
 
     pub event_on : IsAt kept (time_in new) first b (acts ++ event_taken ∷ []) (trace ++ new ∷ [])
@@ -321,29 +321,29 @@ module _ (settings : SettingsValue) (most : ℕ) (start : GatewayState) where
       bounded = λ m. subst (λ n. n ≤ length kept) (sym (shown_taken m)) (bounded m);
       timed = λ m less. time_taken m (let p = a_to_b in omega (arith, less, p, here));
       survives = leaves_at_then Taken first a b before_taken
-          (leaves_there Taken a b (HoldsFrom (time_in new) kept) (HoldsFrom (time_in new) kept) rests still_held (rests_on a b (HoldsFrom (time_in new) kept) rests keeps));
+          (leaves_there Taken a b (HasFrom (time_in new) kept) (HasFrom (time_in new) kept) rests still_held (rests_on a b (HasFrom (time_in new) kept) rests keeps));
     }
 
   -- ---- a turn of the event
 
   module _ (kept extra : List Exchange) (new : GatewayState) (time : ℕ) (first a c : Option Media) (acts more : List Timed) (trace : List GatewayState) (outs : List OwnedOut) (moment : ℕ)
       (grows : new.kept ≡ kept ++ extra) (late : past_of c ≤ moment) (gave_them : Gives moment outs more)
-      (here : IsAt kept time first a acts trace) (rests : RestsWith a (HoldsFrom time kept))
-      (writes : Leaves a c (λ image. HoldsFrom time kept image ⊎ HoldsFrom time new.kept image)) where
+      (here : IsAt kept time first a acts trace) (rests : RestsWith a (HasFrom time kept))
+      (writes : Leaves a c (λ image. HasFrom time kept image ⊎ HasFrom time new.kept image)) where
     abbrev owed : List (GatewayState × OwnedOut)
     owed = each_telling new outs
 
     abbrev Before : (ℕ → ℕ) → Type 0
-    Before = HoldsFrom time kept
+    Before = HasFrom time kept
 
     abbrev After : (ℕ → ℕ) → Type 0
-    After = HoldsFrom time new.kept
+    After = HasFrom time new.kept
 
     abbrev Either : (ℕ → ℕ) → Type 0
-    Either image = HoldsFrom time kept image ⊎ HoldsFrom time new.kept image
+    Either image = HasFrom time kept image ⊎ HasFrom time new.kept image
 
     abbrev Whole : ℕ → (ℕ → ℕ) → Type 0
-    Whole m image = MeansAt settings most start (acts ++ more) (trace ++ told_by owed) new.kept m image
+    Whole m image = MeansAt settings most start (acts ++ more) (trace ++ shown_by owed) new.kept m image
 
     gives : Gives moment (outs_of owed) more
     gives = subst (λ xs. Gives moment xs more) (sym (outs_back new outs)) gave_them
@@ -357,41 +357,41 @@ module _ (settings : SettingsValue) (most : ℕ) (start : GatewayState) where
     a_to_c : past_of a ≤ past_of c
     a_to_c = leaves_past a c Before Either rests writes
 
-    shown_on : (m : ℕ) → shown m (acts ++ more) (trace ++ told_by owed) first_kept ≡ shown m more (told_by owed) (shown m acts trace first_kept)
-    shown_on m = shown_then m acts more trace (told_by owed) first_kept here.same
+    shown_on : (m : ℕ) → shown m (acts ++ more) (trace ++ shown_by owed) first_kept ≡ shown m more (shown_by owed) (shown m acts trace first_kept)
+    shown_on m = shown_then m acts more trace (shown_by owed) first_kept here.same
 
-    time_on : (m : ℕ) → past_of a < m → time_at m (acts ++ more) (trace ++ told_by owed) (time_in start) ≡ time
+    time_on : (m : ℕ) → past_of a < m → time_at m (acts ++ more) (trace ++ shown_by owed) (time_in start) ≡ time
     time_on m less =
-        time_then m acts more trace (told_by owed) (time_in start) here.same
+        time_then m acts more trace (shown_by owed) (time_in start) here.same
         ∙ time_sends m moment owed more (time_at m acts trace (time_in start)) gives ∙ here.timed m less
 
-    none_shown : (m : ℕ) → m ≤ moment → shown m more (told_by owed) (shown m acts trace first_kept) ≡ shown m acts trace first_kept
-    none_shown m le = shown_late m more (told_by owed) (shown m acts trace first_kept) (gives_late m moment (outs_of owed) more le gives)
+    none_shown : (m : ℕ) → m ≤ moment → shown m more (shown_by owed) (shown m acts trace first_kept) ≡ shown m acts trace first_kept
+    none_shown m le = shown_late m more (shown_by owed) (shown m acts trace first_kept) (gives_late m moment (outs_of owed) more le gives)
 
     -- at a moment of the turn, with so many entries on the disk
-    with_count : (m count : ℕ) (image : ℕ → ℕ) → past_of a < m → count ≤ length new.kept → shown m more (told_by owed) (shown m acts trace first_kept) ≤ count
-        → HoldsFrom time (take count new.kept) image → Whole m image
-    with_count m count image less within told holds = record {
+    with_count : (m count : ℕ) (image : ℕ → ℕ) → past_of a < m → count ≤ length new.kept → shown m more (shown_by owed) (shown m acts trace first_kept) ≤ count
+        → HasFrom time (take count new.kept) image → Whole m image
+    with_count m count image less within told image_has = record {
       count = count;
       within = within;
       has_shown = subst (λ n. n ≤ count) (sym (shown_on m)) told;
-      holds = subst (λ t. HoldsFrom t (take count new.kept) image) (sym (time_on m less)) holds;
+      image_has = subst (λ t. HasFrom t (take count new.kept) image) (sym (time_on m less)) image_has;
     }
 
     -- before the first send the disk has the old entries or the new ones
     unsent : (m : ℕ) (image : ℕ → ℕ) → past_of a < m → m ≤ moment → Either image → Whole m image
-    unsent m image less le (inl holds) =
+    unsent m image less le (inl image_has) =
         with_count m (length kept) image less longer
         (subst (λ n. n ≤ length kept) (sym (none_shown m le)) (here.bounded m))
-        (subst (λ es. HoldsFrom time es image) (sym front_is) holds)
-    unsent m image less le (inr holds) =
+        (subst (λ es. HasFrom time es image) (sym front_is) image_has)
+    unsent m image less le (inr image_has) =
         let told = here.bounded m in
         let more_there = longer in
         with_count m (length new.kept) image less (le_refl (length new.kept))
         (subst (λ n. n ≤ length new.kept) (sym (none_shown m le)) (omega (arith, told, more_there)))
-        (subst (λ es. HoldsFrom time es image) (sym (take_all new.kept)) holds)
+        (subst (λ es. HasFrom time es image) (sym (take_all new.kept)) image_has)
 
-    few_shown : (m : ℕ) → shown m more (told_by owed) (shown m acts trace first_kept) ≤ length new.kept
+    few_shown : (m : ℕ) → shown m more (shown_by owed) (shown m acts trace first_kept) ≤ length new.kept
     few_shown m =
         let told = here.bounded m in
         let more_there = longer in
@@ -399,30 +399,30 @@ module _ (settings : SettingsValue) (most : ℕ) (start : GatewayState) where
 
     -- and then the new ones alone
     sent : (m : ℕ) (image : ℕ → ℕ) → past_of a < m → After image → Whole m image
-    sent m image less holds =
+    sent m image less image_has =
         with_count m (length new.kept) image less (le_refl (length new.kept)) (few_shown m)
-        (subst (λ es. HoldsFrom time es image) (sym (take_all new.kept)) holds)
+        (subst (λ es. HasFrom time es image) (sym (take_all new.kept)) image_has)
 
     -- it was written
     written : LeavesAt first c Whole
     written =
         leaves_at_then Whole first a c
         (leaves_at_so first a (MeansAt settings most start acts trace kept) Whole (λ k under image stands.
-        subst (λ es. MeansAt settings most start (acts ++ more) (trace ++ told_by owed) es k image) (sym grows)
-        (older acts more trace (told_by owed) kept extra k image here.same
+        subst (λ es. MeansAt settings most start (acts ++ more) (trace ++ shown_by owed) es k image) (sym grows)
+        (older acts more trace (shown_by owed) kept extra k image here.same
         (gives_late k moment (outs_of owed) more (let p = a_to_c in omega (arith, under, p, late)) gives) stands)) here.survives)
-        (leaves_there Whole a c Before Either rests (λ k low high image holds. unsent k image low (omega (arith, high, late)) holds) writes)
+        (leaves_there Whole a c Before Either rests (λ k low high image image_has. unsent k image low (omega (arith, high, late)) image_has) writes)
 
-    same_on : length (acts ++ more) ≡ length (trace ++ told_by owed)
+    same_on : length (acts ++ more) ≡ length (trace ++ shown_by owed)
     same_on =
         let l = length-append acts more in
-        let t = length-append trace (told_by owed) in
+        let t = length-append trace (shown_by owed) in
         let s = here.same in
         let g = gives_length moment owed more gives in
         omega (arith, l, t, s, g)
 
     -- and then it was sent
-    pub turn_on : (d : Option Media) → RestsWith c After → KeepsMedia c d → IsAt new.kept time first d (acts ++ more) (trace ++ told_by owed)
+    pub turn_on : (d : Option Media) → RestsWith c After → KeepsMedia c d → IsAt new.kept time first d (acts ++ more) (trace ++ shown_by owed)
     turn_on d rests_c sends =
         let p = a_to_c in
         let q = keeps_past c d After rests_c sends in
@@ -431,13 +431,13 @@ module _ (settings : SettingsValue) (most : ℕ) (start : GatewayState) where
           bounded = λ m. subst (λ n. n ≤ length new.kept) (sym (shown_on m)) (few_shown m);
           timed = λ m less. time_on m (omega (arith, less, p, q));
           survives = leaves_at_then Whole first c d written
-              (leaves_there Whole c d After After rests_c (λ k low high image holds. sent k image (omega (arith, low, p)) holds) (rests_on c d After rests_c sends));
+              (leaves_there Whole c d After After rests_c (λ k low high image image_has. sent k image (omega (arith, low, p)) image_has) (rests_on c d After rests_c sends));
         }
 
   -- a turn that was being written when the disk failed: nothing of it was sent
   pub broken_on : (kept extra : List Exchange) (new : GatewayState) (time : ℕ) (first a c : Option Media) (acts : List Timed) (trace : List GatewayState) → new.kept ≡ kept ++ extra
-      → IsAt kept time first a acts trace → RestsWith a (HoldsFrom time kept)
-      → Leaves a c (λ image. HoldsFrom time kept image ⊎ HoldsFrom time new.kept image)
+      → IsAt kept time first a acts trace → RestsWith a (HasFrom time kept)
+      → Leaves a c (λ image. HasFrom time kept image ⊎ HasFrom time new.kept image)
       → LeavesAt first c (MeansAt settings most start acts trace new.kept)
   broken_on kept extra new time first a c acts trace grows here rests writes =
       subst (λ xs. LeavesAt first c (MeansAt settings most start xs trace new.kept)) (append-nil acts)
@@ -447,20 +447,20 @@ module _ (settings : SettingsValue) (most : ℕ) (start : GatewayState) where
 -- ---- the opening, before the first event
 
 pub survives_opening : (settings : SettingsValue) (most : ℕ) (start : GatewayState) (first a b : Option Media) (acts : List Timed) (trace : List GatewayState) (kept extra : List Exchange) → kept ≡ start.kept ++ extra → NoneBefore (past_of a) acts
-    → (Any : (ℕ → ℕ) → Type 0) → RestsWith first Any → Leaves first a (HoldsAlike settings most (time_in start) start.kept)
+    → (Any : (ℕ → ℕ) → Type 0) → RestsWith first Any → Leaves first a (HasAlike settings most (time_in start) start.kept)
     → LeavesAt a b (MeansAt settings most start acts trace kept) → LeavesAt first b (MeansAt settings most start acts trace kept)
 survives_opening settings most start first a b acts trace kept extra grown late Any rests leaves rest =
     let Whole : ℕ → (ℕ → ℕ) → Type 0 = λ m image. MeansAt settings most start acts trace kept m image in
-    let Before : (ℕ → ℕ) → Type 0 = λ image. HoldsAlike settings most (time_in start) start.kept image in
+    let Before : (ℕ → ℕ) → Type 0 = λ image. HasAlike settings most (time_in start) start.kept image in
     leaves_at_then Whole first a b (leaves_there Whole first a Any Before rests opened leaves) rest
   where
-    opened : (k : ℕ) → past_of first < k → k ≤ past_of a → (image : ℕ → ℕ) → HoldsAlike settings most (time_in start) start.kept image → MeansAt settings most start acts trace kept k image
-    opened k low high image holds =
+    opened : (k : ℕ) → past_of first < k → k ≤ past_of a → (image : ℕ → ℕ) → HasAlike settings most (time_in start) start.kept image → MeansAt settings most start acts trace kept k image
+    opened k low high image image_has =
         let none = none_earlier k (past_of a) acts high late in record {
           count = length start.kept;
           within = let longer = ap length grown ∙ length-append start.kept extra in omega (arith, longer);
           has_shown = subst (λ n. n ≤ length start.kept) (sym (shown_late k acts trace (length start.kept) none)) (le_refl (length start.kept));
-          holds = subst (λ t. HoldsAlike settings most t (take (length start.kept) kept) image) (sym (time_late k acts trace (time_in start) none))
-              (subst (λ es. HoldsAlike settings most (time_in start) es image)
-              (sym (ap (take (length start.kept)) grown ∙ take_front (length start.kept) start.kept extra (le_refl (length start.kept)) ∙ take_all start.kept)) holds);
+          image_has = subst (λ t. HasAlike settings most t (take (length start.kept) kept) image) (sym (time_late k acts trace (time_in start) none))
+              (subst (λ es. HasAlike settings most (time_in start) es image)
+              (sym (ap (take (length start.kept)) grown ∙ take_front (length start.kept) start.kept extra (le_refl (length start.kept)) ∙ take_all start.kept)) image_has);
         }

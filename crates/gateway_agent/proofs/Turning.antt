@@ -21,12 +21,12 @@ use Rattle.dots_gateway.specs.declared.passed.Passed.TheVariants as passed
 use Rattle.dots_gateway.specs.declared.passed.GatewayFault.{GatewayFault}
 use Rattle.dots_gateway.specs.declared.passed.GatewayFault.TheVariants as fault
 use Rattle.dots_gateway.specs.Gateway.{GatewayValue, Said, gateway_at, UpOrLacks, DownOrLacks}
-use Rattle.gateway_store.specs.Crashes.{AreAlike, HoldsYoung}
+use Rattle.gateway_store.specs.Crashes.{AreAlike, HasYoung}
 use Rattle.gateway_store.specs.Exchanges.{last_time, most_young}
 use Rattle.gateway_store.specs.Stores.{StoreValue, IsOn}
 use Rattle.gateway_agent.specs.Passing.{GatewayState, GoesUp, GoesDown, Passes, FaultSends, fresh_in, sends_of, state_at}
-use Rattle.gateway_agent.specs.Keeping.{AgentValue, AreJoined, CanKeepAll, Counts, HoldsMore, IsIn, IsMore, agent}
-use Rattle.gateway_agent.specs.Turning.{HoldsAlike, HoldsTurn, Turned, TookBy, BrokeBy, Took, BrokeOff, IsTaken, most_of, time_in}
+use Rattle.gateway_agent.specs.Keeping.{AgentValue, AreJoined, CanKeepAll, Counts, HasMore, IsIn, IsMore, agent}
+use Rattle.gateway_agent.specs.Turning.{HasAlike, HasTurn, Turned, TookBy, BrokeBy, Took, BrokeOff, IsTaken, most_of, time_in}
 use Rattle.gateway_agent.proofs.Fresh.{fresh_of, fresh_token, fresh_time}
 use Rattle.gateway_agent.proofs.Joining.{alike_then, alike_more, counts_at, counts_more, fresh_can, joined_at, joined_more}
 
@@ -68,7 +68,7 @@ module _ (settings : SettingsValue) (most : ℕ) (old new : GatewayState) (outs 
     moment = moment;
     is_moment = at;
     gives = gives;
-    writes = λ rests. begins media (HoldsTurn settings most old new);
+    writes = λ rests. begins media (HasTurn settings most old new);
     rests = λ rests. rests;
     sends = sends;
   }
@@ -226,36 +226,36 @@ module _ (core new : GatewayValue) (old store : StoreValue) (peer : ℕ) (datagr
     module _ (settings : SettingsValue) (most : ℕ) (image : ℕ → ℕ) where
       -- of these exchanges, or of these and one more
       abbrev pub OneOf : ℕ → List Exchange → Type 0
-      OneOf now fresh = HoldsAlike settings most now kept image ⊎ HoldsAlike settings most now (kept ++ fresh) image
+      OneOf now fresh = HasAlike settings most now kept image ⊎ HasAlike settings most now (kept ++ fresh) image
 
-      young_holds : (x : Exchange) → last_time kept ≤ x.time → HoldsYoung settings most x.time old.exchanges x image → OneOf x.time (x ∷ [])
-      young_holds x timely holds = by_cases holds.alike
+      young_has : (x : Exchange) → last_time kept ≤ x.time → HasYoung settings most x.time old.exchanges x image → OneOf x.time (x ∷ [])
+      young_has x timely image_has = by_cases image_has.alike
         where
-          by_cases : AreAlike x.time holds.some old.exchanges ⊎ AreAlike x.time holds.some (old.exchanges ++ x ∷ []) → OneOf x.time (x ∷ [])
+          by_cases : AreAlike x.time image_has.some old.exchanges ⊎ AreAlike x.time image_has.some (old.exchanges ++ x ∷ []) → OneOf x.time (x ∷ [])
           by_cases (inl alike) = inl (record {
-            some = holds.some;
-            holds = holds.holds;
-            store = holds.store;
-            alike = alike_then x.time holds.some old.exchanges kept alike (counts_at old.exchanges kept x.time counts timely);
+            some = image_has.some;
+            image_has = image_has.image_has;
+            store = image_has.store;
+            alike = alike_then x.time image_has.some old.exchanges kept alike (counts_at old.exchanges kept x.time counts timely);
           })
           by_cases (inr alike) = inr (record {
-            some = holds.some;
-            holds = holds.holds;
-            store = holds.store;
-            alike = alike_then x.time holds.some (old.exchanges ++ x ∷ []) (kept ++ x ∷ []) alike
+            some = image_has.some;
+            image_has = image_has.image_has;
+            store = image_has.store;
+            alike = alike_then x.time image_has.some (old.exchanges ++ x ∷ []) (kept ++ x ∷ []) alike
                 (alike_more x.time old.exchanges kept x refl (counts_at old.exchanges kept x.time counts timely));
           })
 
-      pub up_holds : (said : Passed) → UpOrLacks core peer datagram (Ok said) new → HoldsMore settings most old.exchanges (fresh_in (Ok said)) image
+      pub up_has : (said : Passed) → UpOrLacks core peer datagram (Ok said) new → HasMore settings most old.exchanges (fresh_in (Ok said)) image
           → OneOf new.exchanges.time (fresh_in (Ok said))
-      up_holds (passed.Forward bytes (Some x)) ups holds =
+      up_has (passed.Forward bytes (Some x)) ups image_has =
           let time = fresh_time core.exchanges peer x (fresh_of core peer datagram bytes x ups.0) in
           let same : new.exchanges.time ≡ x.time = ap (λ (g : GatewayValue). g.exchanges.time) ups.1 ∙ sym time in
-          subst (λ (t : ℕ). OneOf t (x ∷ [])) (sym same) (young_holds x (omega (arith, late, time)) holds)
-      up_holds (passed.Forward bytes None) ups holds = absurd holds
-      up_holds (passed.Reply to bytes) ups holds = absurd holds
-      up_holds passed.Nothing ups holds = absurd holds
-      up_holds passed.NoMemory ups holds = absurd holds
+          subst (λ (t : ℕ). OneOf t (x ∷ [])) (sym same) (young_has x (omega (arith, late, time)) image_has)
+      up_has (passed.Forward bytes None) ups image_has = absurd image_has
+      up_has (passed.Reply to bytes) ups image_has = absurd image_has
+      up_has passed.Nothing ups image_has = absurd image_has
+      up_has passed.NoMemory ups image_has = absurd image_has
 
 -- the clients and the upstream stay
 pub up_fixed : (g : GatewayValue) (peer : ℕ) (datagram : List ℕ) (answer : Said) (new : GatewayValue) → UpOrLacks g peer datagram answer new → (new.routes ≡ g.routes) × (new.upstream ≡ g.upstream)
@@ -313,15 +313,15 @@ module _ (settings : SettingsValue) (state : GatewayState) (core new : GatewayVa
   slots_same : old.journal.slots ≡ old.journal.slots
   slots_same = refl
 
-  writes : (media between : Option Media) → Leaves media between (HoldsMore settings (most_young old.journal.slots) old.exchanges (fresh_in (Ok said)))
-      → Leaves media between (HoldsTurn settings (most_young old.journal.slots) state left)
+  writes : (media between : Option Media) → Leaves media between (HasMore settings (most_young old.journal.slots) old.exchanges (fresh_in (Ok said)))
+      → Leaves media between (HasTurn settings (most_young old.journal.slots) state left)
   writes media between =
-      leaves_as media between (HoldsMore settings (most_young old.journal.slots) old.exchanges (fresh_in (Ok said))) (HoldsTurn settings (most_young old.journal.slots) state left)
-      (λ image holds. up_holds (gateway_at at core) new old old peer datagram at_joined slots_same state.kept is.counts at_late settings (most_young old.journal.slots) image said ups holds)
+      leaves_as media between (HasMore settings (most_young old.journal.slots) old.exchanges (fresh_in (Ok said))) (HasTurn settings (most_young old.journal.slots) state left)
+      (λ image image_has. up_has (gateway_at at core) new old old peer datagram at_joined slots_same state.kept is.counts at_late settings (most_young old.journal.slots) image said ups image_has)
 
   -- it was kept, and then the sends were given
   pub took_up : (media between media_new : Option Media) (moment : ℕ) (acts told acts_new : Option (List Timed)) → store.journal.slots ≡ old.journal.slots → IsMore old store (fresh_in (Ok said))
-      → (RestsWith media (IsOn settings old) → Leaves media between (HoldsMore settings (most_young old.journal.slots) old.exchanges (fresh_in (Ok said))))
+      → (RestsWith media (IsOn settings old) → Leaves media between (HasMore settings (most_young old.journal.slots) old.exchanges (fresh_in (Ok said))))
       → (RestsWith media (IsOn settings old) → RestsWith between (IsOn settings store))
       → KeepsActs acts told → IsMoment moment between → Added told acts_new (Gives moment (sends_of core.upstream said)) → KeepsMedia between media_new
       → TookBy Goes settings state (agent core old) (agent new store) media media_new acts acts_new
@@ -349,7 +349,7 @@ module _ (settings : SettingsValue) (state : GatewayState) (core new : GatewayVa
 
   -- the disk failed while it was kept
   pub broke_up : (media between : Option Media) (acts told : Option (List Timed))
-      → (RestsWith media (IsOn settings old) → Leaves media between (HoldsMore settings (most_young old.journal.slots) old.exchanges (fresh_in (Ok said))))
+      → (RestsWith media (IsOn settings old) → Leaves media between (HasMore settings (most_young old.journal.slots) old.exchanges (fresh_in (Ok said))))
       → KeepsActs acts told → BrokeBy Goes settings state (agent core old) media between acts told
   broke_up media between acts told leaves silent = record {
     outs = sends_of core.upstream said;

@@ -6,7 +6,7 @@ use Rattle.dots_gateway.specs.declared.exchange.Waiting.{Waiting}
 use Rattle.dots_gateway.specs.Gateway.{GatewayValue}
 use Rattle.dots_gateway.specs.Routes.{routes_of}
 use Rattle.slot_journal.specs.Sizes.{slots_of}
-use Rattle.gateway_store.specs.Crashes.{AreAlike, HoldsYoung}
+use Rattle.gateway_store.specs.Crashes.{AreAlike, HasYoung}
 use Rattle.gateway_store.specs.Exchanges.{IsStore, young_at, last_number, last_time, next_number, most_young}
 use Rattle.gateway_store.specs.Stores.{StoreValue, CanKeep}
 use Rattle.gateway_agent.specs.Passing.{GatewayState}
@@ -64,9 +64,9 @@ CanKeepAll store [] = ⊤
 CanKeepAll store (x ∷ xs) = CanKeep store x.time x × (length x.token ≤ 8)
 
 -- While it is kept the image holds a store with the young exchanges, or with these and the new one. Where there is none nothing is written.
-abbrev pub HoldsMore : SettingsValue → ℕ → List Exchange → List Exchange → (ℕ → ℕ) → Type 0
-HoldsMore settings most exchanges [] image = ⊥
-HoldsMore settings most exchanges (x ∷ xs) image = HoldsYoung settings most x.time exchanges x image
+abbrev pub HasMore : SettingsValue → ℕ → List Exchange → List Exchange → (ℕ → ℕ) → Type 0
+HasMore settings most exchanges [] image = ⊥
+HasMore settings most exchanges (x ∷ xs) image = HasYoung settings most x.time exchanges x image
 
 -- it was kept: it is the last of the store, and behind those that were young
 pub record IsOneMore (old new : StoreValue) (x : Exchange) : Type 0 where

@@ -14,7 +14,7 @@ use Rattle.slot_store.specs.Opening.{Is}
 use Rattle.slot_journal.specs.Sizes.{slots_of}
 use Rattle.slot_journal.specs.Untaken.{IsFailure}
 use Rattle.slot_journal.specs.declared.fault.JournalFault.TheVariants as fault
-use Rattle.gateway_store.specs.Crashes.{HoldsThe}
+use Rattle.gateway_store.specs.Crashes.{HasThe}
 use Rattle.gateway_store.specs.Exchanges.{IsStore, most_young}
 use Rattle.gateway_store.specs.Refusing.{RefusesStore}
 use Rattle.gateway_agent.specs.declared.stopping.GatewayHalt.{GatewayHalt}
@@ -22,7 +22,7 @@ use Rattle.gateway_agent.specs.declared.stopping.GatewayHalt.TheVariants as halt
 use Rattle.gateway_agent.specs.declared.stopping.GatewayEnding.{GatewayEnding}
 use Rattle.gateway_agent.specs.declared.stopping.GatewayEnding.TheVariants as ending
 use Rattle.gateway_agent.specs.Passing.{GatewayState, opened}
-use Rattle.gateway_agent.specs.Sent.{HoldsSent}
+use Rattle.gateway_agent.specs.Sent.{HasSent}
 use Rattle.gateway_agent.specs.Surviving.{Story, past_of, NoneBefore, Survives, LeavesAt, time_at}
 use Rattle.gateway_agent.specs.Turning.{time_in}
 
@@ -104,17 +104,17 @@ IsAtRest media = (seen : ℕ → ℕ) × RestsWith media (Is seen)
 -- that is at most 246 seconds old at the machine's time, and a last number that no packet's is above.
 abbrev pub SurvivesSent : SettingsValue → ℕ → GatewayState → Option Media → Option Media → List Timed → List GatewayState → List Exchange → Type 0
 SurvivesSent settings most start before now acts trace kept =
-    LeavesAt before now (λ m image. HoldsSent settings most start.core.upstream m (time_at m acts trace (time_in start)) kept acts image)
+    LeavesAt before now (λ m image. HasSent settings most start.core.upstream m (time_at m acts trace (time_in start)) kept acts image)
 
 -- A gateway with these settings has run: it opened a store, whose exchanges are what the disk held, where it is told; its acts are a run
 -- from these at the time 0, or at that of the last of them; and where nothing was pending on the disk, what was sent survives a crash.
 pub record HasRun (settings : SettingsValue) (upstream : ℕ) (how : Answer) (media media_now : Option Media) (acts acts_now : Option (List Timed)) : Type 0 where
-  pub held : List Exchange
-  pub store : IsStore (most_young (slots_of settings)) held
-  pub was_held : (seen : ℕ → ℕ) → Sees media seen → HoldsThe settings held seen
+  pub stored : List Exchange
+  pub store : IsStore (most_young (slots_of settings)) stored
+  pub was_stored : (seen : ℕ → ℕ) → Sees media seen → HasThe settings stored seen
   pub came : IsFollowed ((seen : ℕ → ℕ) × Sees media seen) acts acts_now → (end : Owing GatewayState)
-      × (came : Came settings (most_young (slots_of settings)) (opened settings upstream held 0) how media media_now (IsAtRest media) acts acts_now end)
-      × Added acts acts_now (λ more. IsAtRest media → SurvivesSent settings (most_young (slots_of settings)) (opened settings upstream held 0) media media_now more came.trace end.last.kept)
+      × (came : Came settings (most_young (slots_of settings)) (opened settings upstream stored 0) how media media_now (IsAtRest media) acts acts_now end)
+      × Added acts acts_now (λ more. IsAtRest media → SurvivesSent settings (most_young (slots_of settings)) (opened settings upstream stored 0) media media_now more came.trace end.last.kept)
 
 -- What the run of a gateway with these settings has done, by how it ended. Where the store didn't open no event was taken.
 abbrev pub Behaves : SettingsValue → ℕ → GatewayEnding → ℕ → Option Media → Option Media → Option (List Timed) → Option (List Timed) → Type 0

@@ -7,7 +7,7 @@ use Rattle.dots_host.specs.Acts.{WireAct, gave, Timed}
 use Rattle.dots_settings.specs.Settings.{SettingsValue}
 use Rattle.dots_gateway.specs.declared.exchange.Exchange.{Exchange}
 use Rattle.dots_gateway.specs.Wanted.{is_request}
-use Rattle.gateway_store.specs.Crashes.{HoldsThe}
+use Rattle.gateway_store.specs.Crashes.{HasThe}
 use Rattle.gateway_store.specs.Exchanges.{IsStore, is_young, last_number}
 
 -- a request that was passed on under the number, which is one of 8 bytes: these are its token
@@ -27,9 +27,9 @@ WasSent upstream m number (timed ∷ acts) = ((timed.moment < m) × IsHanded ups
 
 -- Each packet that was sent before is of one of the exchanges that were kept. The image holds a store. In it is each of these of which a packet was
 -- sent before and that is at most 246 s old, and its last number isn't below that of any packet.
-pub record HoldsSent (settings : SettingsValue) (most upstream m now : ℕ) (kept : List Exchange) (acts : List Timed) (image : ℕ → ℕ) : Type 0 where
+pub record HasSent (settings : SettingsValue) (most upstream m now : ℕ) (kept : List Exchange) (acts : List Timed) (image : ℕ → ℕ) : Type 0 where
   pub some : List Exchange
-  pub holds : HoldsThe settings some image
+  pub image_has : HasThe settings some image
   pub store : IsStore most some
   pub of : (number : ℕ) → WasSent upstream m number acts → (x : Exchange) × Contains kept x × (x.number ≡ number)
   pub has : (number : ℕ) (x : Exchange) → WasSent upstream m number acts → Contains kept x → x.number ≡ number → is_young now x ≡ true → Contains some x

@@ -11,16 +11,16 @@ use Rattle.dots_disk.specs.Becoming.{Leaves, RestsWith, KeepsMedia, IsMoment}
 use Rattle.dots_disk.specs.Beside.{KeepsActs}
 use Rattle.dots_settings.specs.Settings.{SettingsValue}
 use Rattle.dots_gateway.specs.declared.exchange.Exchange.{Exchange}
-use Rattle.gateway_store.specs.Crashes.{HoldsThe, AreAlike}
+use Rattle.gateway_store.specs.Crashes.{HasThe, AreAlike}
 use Rattle.gateway_store.specs.Exchanges.{IsStore, most_young, last_time}
 use Rattle.gateway_store.specs.Stores.{IsOn}
 use Rattle.gateway_agent.specs.Passing.{GatewayState, Passes}
 use Rattle.gateway_agent.specs.Keeping.{AgentValue, IsIn}
 
 -- The image holds a store in which the same exchanges are young at this time as among these, with the same last number.
-pub record HoldsAlike (settings : SettingsValue) (most now : ℕ) (kept : List Exchange) (image : ℕ → ℕ) : Type 0 where
+pub record HasAlike (settings : SettingsValue) (most now : ℕ) (kept : List Exchange) (image : ℕ → ℕ) : Type 0 where
   pub some : List Exchange
-  pub holds : HoldsThe settings some image
+  pub image_has : HasThe settings some image
   pub store : IsStore most some
   pub alike : AreAlike now some kept
 
@@ -29,8 +29,8 @@ abbrev pub time_in : GatewayState → ℕ
 time_in state = state.core.exchanges.time
 
 -- A crash between the states leaves a store with what counts of the exchanges of the one, or of the other, at the time of the later one.
-abbrev pub HoldsTurn : SettingsValue → ℕ → GatewayState → GatewayState → (ℕ → ℕ) → Type 0
-HoldsTurn settings most old new image = HoldsAlike settings most (time_in new) old.kept image ⊎ HoldsAlike settings most (time_in new) new.kept image
+abbrev pub HasTurn : SettingsValue → ℕ → GatewayState → GatewayState → (ℕ → ℕ) → Type 0
+HasTurn settings most old new image = HasAlike settings most (time_in new) old.kept image ⊎ HasAlike settings most (time_in new) new.kept image
 
 -- A turn led from the one state to the other. At each moment up to the first send the disk has what counts of the exchanges of the one or of
 -- the other; there it rests with those of the other; and from then on nothing is written, and the sends are given, one moment after the other.
@@ -40,7 +40,7 @@ pub record Turned (settings : SettingsValue) (most : ℕ) (old new : GatewayStat
   pub moment : ℕ
   pub is_moment : IsMoment moment between
   pub gives : Added acts acts_new (Gives moment outs)
-  pub writes : RestsWith media before → Leaves media between (HoldsTurn settings most old new)
+  pub writes : RestsWith media before → Leaves media between (HasTurn settings most old new)
   pub rests : RestsWith media before → RestsWith between after
   pub sends : KeepsMedia between media_new
 
@@ -48,7 +48,7 @@ pub record Turned (settings : SettingsValue) (most : ℕ) (old new : GatewayStat
 -- of the one or of the other.
 pub record Broke (settings : SettingsValue) (most : ℕ) (old new : GatewayState) (before : (ℕ → ℕ) → Type 0) (media media_new : Option Media) (acts acts_new : Option (List Timed)) : Type 0 where
   pub silent : KeepsActs acts acts_new
-  pub writes : RestsWith media before → Leaves media media_new (HoldsTurn settings most old new)
+  pub writes : RestsWith media before → Leaves media media_new (HasTurn settings most old new)
 
 -- how many may be young in the store of the agent
 abbrev pub most_of : AgentValue → ℕ

@@ -8,12 +8,12 @@ ghost use Rattle.dots_history.specs.declared.entry.Entry.{Entry};
 ghost use Rattle.slot_store.specs.Gates.{Sees};
 ghost use Rattle.slot_store.specs.Layout.{needed_of};
 ghost use Rattle.slot_store.specs.Opening.{Is};
-ghost use Rattle.slot_journal.specs.DiskEntries.{Holds};
+ghost use Rattle.slot_journal.specs.DiskEntries.{HasEntries};
 ghost use Rattle.slot_journal.specs.Refused.{Caused};
 ghost use Rattle.slot_journal.specs.Sizes.{slots_of};
 ghost use Rattle.slot_journal.specs.Untaken.{IsFailure};
 ghost use Rattle.slot_journal.specs.declared.fault.JournalFault.{JournalFault};
-ghost use Rattle.gateway_store.specs.Crashes.{HoldsThe};
+ghost use Rattle.gateway_store.specs.Crashes.{HasThe};
 ghost use Rattle.gateway_store.specs.Exchanges.{IsStore, most_young, next_number};
 ghost use Rattle.gateway_store.specs.Refusing.{RefusesStore};
 ghost use Rattle.gateway_store.specs.Stores.{IsOn};
@@ -61,22 +61,22 @@ pub fn begin<D: Disk>(
 ) -> Result<(GatewayCore, Store), JournalFault>
     requires early { at < 2 ^ 48 }
     // A disk on which nothing was pending holds the same list at each moment.
-    ensures moments { (seen : ℕ → ℕ) (entries : List Entry) → RestsWith (D.media disk.old) (Is seen) → Holds settings.now seen entries
-        → Leaves (D.media disk.old) (D.media disk.new) (λ image. Holds settings.now image entries) }
+    ensures moments { (seen : ℕ → ℕ) (entries : List Entry) → RestsWith (D.media disk.old) (Is seen) → HasEntries settings.now seen entries
+        → Leaves (D.media disk.old) (D.media disk.new) (λ image. HasEntries settings.now image entries) }
     // The store has what the disk held, and the disk rests with that. The gateway begins with it.
     ensures opened { IfOk result (λ begun. (seen : ℕ → ℕ) → Sees (D.media disk.old) seen
-        → HoldsThe settings.now begun.1.exchanges seen × RestsWith (D.media disk.new) (IsOn settings.now begun.1)) }
+        → HasThe settings.now begun.1.exchanges seen × RestsWith (D.media disk.new) (IsOn settings.now begun.1)) }
     ensures begun { IfOk result (λ begun. IsFor settings.now upstream (agent begun.0 begun.1)
         × IsIn (agent begun.0 begun.1) (opened settings.now upstream begun.1.exchanges at)) }
     ensures size { OnOk result (needed_of (slots_of settings.now) ≤ D.extent disk.new) }
     // A disk is refused for a cause that it has, and one that holds a store isn't refused.
     ensures refused { IfErr result (λ fault. (seen : ℕ → ℕ) → Sees (D.media disk.old) seen
         → RefusesStore settings.now (D.extent disk.old) seen (D.media disk.new) fault) }
-    ensures complete { IfErr result (λ fault. (seen : ℕ → ℕ) (exchanges : List Exchange) → Sees (D.media disk.old) seen → HoldsThe settings.now exchanges seen
+    ensures complete { IfErr result (λ fault. (seen : ℕ → ℕ) (exchanges : List Exchange) → Sees (D.media disk.old) seen → HasThe settings.now exchanges seen
         → IsStore (most_young (slots_of settings.now)) exchanges → needed_of (slots_of settings.now) ≤ D.extent disk.old → IsFailure fault) }
     // Where the disk is refused, and none of its calls failed, nothing was written; or it held a list, and holds it still.
     ensures unwritten { IfErr result (λ fault. (seen : ℕ → ℕ) → fault ≢ JournalFault.DiskFault → RestsWith (D.media disk.old) (Is seen)
-        → RestsWith (D.media disk.new) (Is seen) ⊎ ((entries : List Entry) × Holds settings.now seen entries)) }
+        → RestsWith (D.media disk.new) (Is seen) ⊎ ((entries : List Entry) × HasEntries settings.now seen entries)) }
     ensures extent { D.extent disk.new ≡ D.extent disk.old }
     ensures cause { Caused (D.faults disk.old) (D.faults disk.new) result }
     ensures beside { D.beside disk.old disk.new }
@@ -107,7 +107,7 @@ pub fn restart<D: Disk>(
     ensures of { IfOk result (λ begun. IsFor settings.now upstream (agent begun.0 begun.1) × AreJoined begun.0 begun.1) }
     ensures size { OnOk result (needed_of (slots_of settings.now) ≤ D.extent disk.new) }
     ensures moments { RestsWith (D.media disk.old) (IsOn settings.now store)
-        → Leaves (D.media disk.old) (D.media disk.new) (HoldsThe settings.now store.exchanges) }
+        → Leaves (D.media disk.old) (D.media disk.new) (HasThe settings.now store.exchanges) }
     // What a gateway left is found again: there may be no memory, or the disk may fail, and else nothing is refused.
     ensures found { IfErr result (λ fault. AreJoined core store → RestsWith (D.media disk.old) (IsOn settings.now store)
         → needed_of (slots_of settings.now) ≤ D.extent disk.old → IsFailure fault) }

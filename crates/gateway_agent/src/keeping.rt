@@ -8,7 +8,7 @@ ghost use Rattle.slot_store.specs.Layout.{needed_of};
 ghost use Rattle.gateway_store.specs.Exchanges.{IsStore, most_young};
 ghost use Rattle.gateway_store.specs.Stores.{IsOn};
 ghost use Rattle.gateway_agent.specs.Passing.{fresh_in};
-ghost use Rattle.gateway_agent.specs.Keeping.{CanKeepAll, HoldsMore, IsMore};
+ghost use Rattle.gateway_agent.specs.Keeping.{CanKeepAll, HasMore, IsMore};
 
 use dots_disk::Disk;
 use dots_gateway::{Exchange, Passed};
@@ -34,7 +34,7 @@ pub fn keep_fresh<D: Disk>(store: &mut Store, disk: &mut D, said: &Passed) -> Re
     requires can { CanKeepAll store.old (fresh_in (Ok said.now)) }
     requires store { IsStore (most_young store.old.journal.slots) store.old.exchanges }
     ensures moments { (settings : SettingsValue) → RestsWith (D.media disk.old) (IsOn settings store.old)
-        → Leaves (D.media disk.old) (D.media disk.new) (HoldsMore settings (most_young store.old.journal.slots) store.old.exchanges (fresh_in (Ok said.now))) }
+        → Leaves (D.media disk.old) (D.media disk.new) (HasMore settings (most_young store.old.journal.slots) store.old.exchanges (fresh_in (Ok said.now))) }
     ensures rests { OnOk result ((settings : SettingsValue) → RestsWith (D.media disk.old) (IsOn settings store.old)
         → RestsWith (D.media disk.new) (IsOn settings store.new)) }
     ensures more { OnOk result (IsMore store.old store.new (fresh_in (Ok said.now))) }

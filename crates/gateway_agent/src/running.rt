@@ -9,7 +9,7 @@ ghost use Rattle.dots_gateway.specs.declared.exchange.Exchange.{Exchange};
 ghost use Rattle.slot_store.specs.Gates.{Sees};
 ghost use Rattle.slot_store.specs.Layout.{needed_of};
 ghost use Rattle.slot_journal.specs.Sizes.{slots_of};
-ghost use Rattle.gateway_store.specs.Crashes.{HoldsThe};
+ghost use Rattle.gateway_store.specs.Crashes.{HasThe};
 ghost use Rattle.gateway_store.specs.Exchanges.{IsStore, most_young};
 ghost use Rattle.gateway_store.specs.Stores.{IsOn};
 ghost use Rattle.gateway_agent.specs.Passing.{GatewayState};
@@ -123,7 +123,7 @@ pub fn run_gateway<H: Host>(
     ensures ended { EndsFor result (Rose (H.Wire.faults host.old) (H.Wire.faults host.new)) (Rose (H.Disk.faults host.old) (H.Disk.faults host.new)) }
     ensures leads { H.leads host.old host.new }
     // A disk that holds a store is opened, and found again, want of memory and failures aside.
-    ensures complete { (seen : ℕ → ℕ) (exchanges : List Exchange) → Sees (H.media host.old) seen → HoldsThe settings.now exchanges seen
+    ensures complete { (seen : ℕ → ℕ) (exchanges : List Exchange) → Sees (H.media host.old) seen → HasThe settings.now exchanges seen
         → IsStore (most_young (slots_of settings.now)) exchanges → needed_of (slots_of settings.now) ≤ H.extent host.old → Completes result }
 {
     let (core, store) = match begin(alloc, host, settings, upstream, 0) {

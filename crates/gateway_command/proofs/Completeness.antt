@@ -8,7 +8,7 @@ use Rattle.dots_settings.specs.Settings.{SettingsValue}
 use Rattle.dots_settings.proofs.OneFile.{no_settings_at_fault, one_settings}
 use Rattle.slot_store.specs.Layout.{needed_of}
 use Rattle.slot_journal.specs.Sizes.{slots_of}
-use Rattle.gateway_store.specs.Crashes.{HoldsThe}
+use Rattle.gateway_store.specs.Crashes.{HasThe}
 use Rattle.gateway_store.specs.Exchanges.{IsStore, most_young}
 use Rattle.gateway_agent.specs.declared.stopping.GatewayEnding.{GatewayEnding}
 use Rattle.gateway_agent.specs.Running.{Completes}
@@ -30,18 +30,18 @@ one_or_other file settings upstream why are named (inr lacks) =
     some_or_none upstream (sym named ∙ sym (ap (λ (s : SettingsValue). s.upstream) (one_settings file lacks.settings settings lacks.are are)) ∙ lacks.none)
 
 -- memory ran out, the settings couldn't be read, or no read of them failed
-abbrev pub HeardAll : ℕ → ℕ → CommandEnding → Type 0
-HeardAll before now how = (how ≡ ending.NoMemory) ⊎ (how ≡ ending.SettingsFailed) ⊎ (now ≡ before)
+abbrev pub SourceReadAll : ℕ → ℕ → CommandEnding → Type 0
+SourceReadAll before now how = (how ≡ ending.NoMemory) ⊎ (how ≡ ending.SettingsFailed) ⊎ (now ≡ before)
 
-has_heard : (before now : ℕ) (how : CommandEnding) → status_of how ≢ 4 → status_of how ≢ 5 → HeardAll before now how → now ≡ before
-has_heard before now how four five (inl is) = absurd (four (subst (λ how. status_of how ≡ 4) (sym is) refl))
-has_heard before now how four five (inr (inl is)) = absurd (five (subst (λ how. status_of how ≡ 5) (sym is) refl))
-has_heard before now how four five (inr (inr same)) = same
+has_source_read : (before now : ℕ) (how : CommandEnding) → status_of how ≢ 4 → status_of how ≢ 5 → SourceReadAll before now how → now ≡ before
+has_source_read before now how four five (inl is) = absurd (four (subst (λ how. status_of how ≡ 4) (sym is) refl))
+has_source_read before now how four five (inr (inl is)) = absurd (five (subst (λ how. status_of how ≡ 5) (sym is) refl))
+has_source_read before now how four five (inr (inr same)) = same
 
-refused_heard : (before now : ℕ) (fault : SettingsFault) → HeardAll before now (ending.Refused fault) → now ≡ before
-refused_heard before now fault (inl is) = absurd (cc is)
-refused_heard before now fault (inr (inl is)) = absurd (cc is)
-refused_heard before now fault (inr (inr same)) = same
+refused_source_read : (before now : ℕ) (fault : SettingsFault) → SourceReadAll before now (ending.Refused fault) → now ≡ before
+refused_source_read before now fault (inl is) = absurd (cc is)
+refused_source_read before now fault (inr (inl is)) = absurd (cc is)
+refused_source_read before now fault (inr (inr same)) = same
 
 -- a status of these is one of an ending before the host is called
 pub not_hosted : (how : CommandEnding) → 1 ≤ status_of how → status_of how ≤ 3 → has_hosted how ≡ false
@@ -74,12 +74,12 @@ module _ (before now : Outside) where
   EndsRefused how =
       ((status_of how ≡ 3) × (now.source_faults ≡ before.source_faults)) ⊎ (status_of how ≡ 4) ⊎ ((status_of how ≡ 5) × SourceFailed before now)
 
-  ends_refused : (how : CommandEnding) → GivesFault before.left → HeardAll before.source_faults now.source_faults how → Behaves how before now → EndsRefused how
-  ends_refused (ending.Refused fault) given heard behaves = inl (refl, refused_heard before.source_faults now.source_faults fault heard)
-  ends_refused ending.NoMemory given heard behaves = inr (inl refl)
-  ends_refused ending.SettingsFailed given heard behaves = inr (inr (refl, behaves.2))
-  ends_refused (ending.Ran how) given heard behaves = absurd (never_served behaves.0 behaves.2 behaves.3 given behaves.1)
-  ends_refused (ending.ReportFailed waiting) given heard behaves = absurd (never_served behaves.0 behaves.2 behaves.3 given behaves.1)
+  ends_refused : (how : CommandEnding) → GivesFault before.left → SourceReadAll before.source_faults now.source_faults how → Behaves how before now → EndsRefused how
+  ends_refused (ending.Refused fault) given source_read behaves = inl (refl, refused_source_read before.source_faults now.source_faults fault source_read)
+  ends_refused ending.NoMemory given source_read behaves = inr (inl refl)
+  ends_refused ending.SettingsFailed given source_read behaves = inr (inr (refl, behaves.2))
+  ends_refused (ending.Ran how) given source_read behaves = absurd (never_served behaves.0 behaves.2 behaves.3 given behaves.1)
+  ends_refused (ending.ReportFailed waiting) given source_read behaves = absurd (never_served behaves.0 behaves.2 behaves.3 given behaves.1)
 
   -- a disk that is ready isn't refused
   opens_ready : (ready : IsReady before.left before.media before.extent) (settings : SettingsValue) (how : GatewayEnding) → IfSome before.left (λ file. SettingsAre file settings)
@@ -87,7 +87,7 @@ module _ (before now : Outside) where
   opens_ready ready settings how told opens =
       let same : ready.gives.settings ≡ settings = one_settings ready.gives.file ready.gives.settings settings ready.gives.are
       (subst (λ left. IfSome left (λ file. SettingsAre file settings)) ready.gives.told told) in
-      opens ready.seen ready.exchanges ready.sees (subst (λ s. HoldsThe s ready.exchanges ready.seen) same ready.holds)
+      opens ready.seen ready.exchanges ready.sees (subst (λ s. HasThe s ready.exchanges ready.seen) same ready.image_has)
       (subst (λ s. IsStore (most_young (slots_of s)) ready.exchanges) same ready.store) (subst (λ s. needed_of (slots_of s) ≤ before.extent) same ready.large)
 
   ends_well : IsReady before.left before.media before.extent → (SourceFailed before now → ⊥) → (WireFailed before now → ⊥) → (DiskFailed before now → ⊥) → (ReportFailed before now → ⊥)
@@ -97,9 +97,9 @@ module _ (before now : Outside) where
   ends_well ready read came kept written ending.SettingsFailed behaves = absurd (read behaves.2)
   ends_well ready read came kept written (ending.Ran how) behaves =
       let runs = behaves.4 in
-      subst (λ g. EndsWell (WireFailed before now) (DiskFailed before now) (status_of (ending.Ran g))) (sym runs.tells.0)
+      subst (λ g. EndsWell (WireFailed before now) (DiskFailed before now) (status_of (ending.Ran g))) (sym runs.reports_end.0)
       (ran_well (WireFailed before now) (DiskFailed before now) came kept runs.how (opens_ready ready behaves.0 runs.how behaves.1 runs.opens) runs.failed)
-  ends_well ready read came kept written (ending.ReportFailed waiting) behaves = absurd (written behaves.4.tells.2)
+  ends_well ready read came kept written (ending.ReportFailed waiting) behaves = absurd (written behaves.4.reports_end.2)
 
   has_read : (how : CommandEnding) → status_of how ≡ 5 → Behaves how before now → SourceFailed before now ⊎ WireFailed before now
   has_read (ending.Refused fault) is behaves = absurd (omega (arith, is))
@@ -107,7 +107,7 @@ module _ (before now : Outside) where
   has_read ending.SettingsFailed is behaves = inl behaves.2
   has_read (ending.Ran how) is behaves =
       let runs = behaves.4 in
-      inr (wire_failed (WireFailed before now) (DiskFailed before now) runs.how (subst (λ g. status_of (ending.Ran g) ≡ 5) runs.tells.0 is) runs.failed)
+      inr (wire_failed (WireFailed before now) (DiskFailed before now) runs.how (subst (λ g. status_of (ending.Ran g) ≡ 5) runs.reports_end.0 is) runs.failed)
   has_read (ending.ReportFailed waiting) is behaves = absurd (omega (arith, is))
 
   has_failed : (how : CommandEnding) → status_of how ≡ 6 → Behaves how before now → DiskFailed before now
@@ -116,7 +116,7 @@ module _ (before now : Outside) where
   has_failed ending.SettingsFailed is behaves = absurd (omega (arith, is))
   has_failed (ending.Ran how) is behaves =
       let runs = behaves.4 in
-      disk_failed (WireFailed before now) (DiskFailed before now) runs.how (subst (λ g. status_of (ending.Ran g) ≡ 6) runs.tells.0 is) runs.failed
+      disk_failed (WireFailed before now) (DiskFailed before now) runs.how (subst (λ g. status_of (ending.Ran g) ≡ 6) runs.reports_end.0 is) runs.failed
   has_failed (ending.ReportFailed waiting) is behaves = absurd (omega (arith, is))
 
   has_written : (how : CommandEnding) → status_of how ≡ 9 → Behaves how before now → ReportFailed before now
@@ -124,18 +124,18 @@ module _ (before now : Outside) where
   has_written ending.NoMemory is behaves = absurd (omega (arith, is))
   has_written ending.SettingsFailed is behaves = absurd (omega (arith, is))
   has_written (ending.Ran how) is behaves = absurd (never_nine how is)
-  has_written (ending.ReportFailed waiting) is behaves = behaves.4.tells.2
+  has_written (ending.ReportFailed waiting) is behaves = behaves.4.reports_end.2
 
   -- what the status of a run says
-  pub outcome_by : (words : List (List ℕ)) (how : CommandEnding) → is_gateway words ≡ true → HeardAll before.source_faults now.source_faults how → Behaves how before now
+  pub outcome_by : (words : List (List ℕ)) (how : CommandEnding) → is_gateway words ≡ true → SourceReadAll before.source_faults now.source_faults how → Behaves how before now
       → GatewayOutcome words (status_of how) before now
-  outcome_by words how asks heard behaves = record {
+  outcome_by words how asks source_read behaves = record {
     commands = (λ is. absurd (no_two how is), λ none. absurd (true≢false (sym asks ∙ none)));
     read = λ is. has_read how is behaves;
-    heard = λ four five. has_heard before.source_faults now.source_faults how four five heard;
+    source_read = λ four five. has_source_read before.source_faults now.source_faults how four five source_read;
     disk = λ is. has_failed how is behaves;
     written = λ is. has_written how is behaves;
-    refused = λ _ given. ends_refused how given heard behaves;
+    refused = λ _ given. ends_refused how given source_read behaves;
     complete = λ _ ready read came kept written. ends_well ready read came kept written how behaves;
   }
 
@@ -144,7 +144,7 @@ module _ (before now : Outside) where
   other_words words none same = record {
     commands = (λ _. none, λ _. refl);
     read = λ is. absurd (omega (arith, is));
-    heard = λ _ _. same;
+    source_read = λ _ _. same;
     disk = λ is. absurd (omega (arith, is));
     written = λ is. absurd (omega (arith, is));
     refused = λ asks given. absurd (true≢false (sym asks ∙ none));

@@ -12,7 +12,7 @@ use Rattle.dots_gateway.specs.declared.exchange.Exchange.{Exchange}
 use Rattle.slot_store.specs.Gates.{Sees}
 use Rattle.slot_store.specs.Layout.{needed_of}
 use Rattle.slot_journal.specs.Sizes.{slots_of}
-use Rattle.gateway_store.specs.Crashes.{HoldsThe}
+use Rattle.gateway_store.specs.Crashes.{HasThe}
 use Rattle.gateway_store.specs.Exchanges.{IsStore, most_young}
 use Rattle.gateway_agent.specs.declared.stopping.GatewayHalt.{GatewayHalt}
 use Rattle.gateway_agent.specs.declared.stopping.GatewayHalt.TheVariants as halt
@@ -82,7 +82,7 @@ pub record GivesGateway (left : Option (List ℕ)) : Type 0 where
 
 -- a disk that holds a store was opened, and found again, want of memory and failures aside
 abbrev pub Opens : SettingsValue → GatewayEnding → ℕ → Option Media → Type 0
-Opens settings how extent media = (seen : ℕ → ℕ) (exchanges : List Exchange) → Sees media seen → HoldsThe settings exchanges seen
+Opens settings how extent media = (seen : ℕ → ℕ) (exchanges : List Exchange) → Sees media seen → HasThe settings exchanges seen
     → IsStore (most_young (slots_of settings)) exchanges → needed_of (slots_of settings) ≤ extent → agent.Completes how
 
 -- What was written of a gateway that ended so, where the report could be written: at the end how many exchanges wait; where a disk is refused its
@@ -94,10 +94,10 @@ Reports (gateway.Halted (halt.Unrecovered fault)) old new failed = WritesRefusal
 Reports (gateway.Halted _) old new failed = new ≡ old
 
 -- the same by the ending of the command: how many exchanges wait was written, or the sink failed
-abbrev pub Tells : GatewayEnding → CommandEnding → Option (List ℕ) → Option (List ℕ) → Type 0 → Type 0
-Tells how (ending.Ran told) old new failed = (told ≡ how) × Reports how old new failed
-Tells how (ending.ReportFailed waiting) old new failed = (how ≡ gateway.Ended waiting) × AppendsBeginning old new (waiting_line waiting) × failed
-Tells how _ old new failed = ⊥
+abbrev pub ReportsEnd : GatewayEnding → CommandEnding → Option (List ℕ) → Option (List ℕ) → Type 0 → Type 0
+ReportsEnd how (ending.Ran told) old new failed = (told ≡ how) × Reports how old new failed
+ReportsEnd how (ending.ReportFailed waiting) old new failed = (how ≡ gateway.Ended waiting) × AppendsBeginning old new (waiting_line waiting) × failed
+ReportsEnd how _ old new failed = ⊥
 
 -- A gateway with these settings and this upstream ran: what it has done by how it ended, what must have failed, and what was written of it.
 pub record Runs (ending : CommandEnding) (settings : SettingsValue) (upstream : ℕ) (before now : Outside) : Type 0 where
@@ -105,7 +105,7 @@ pub record Runs (ending : CommandEnding) (settings : SettingsValue) (upstream : 
   pub behaves : agent.Behaves settings upstream how before.extent before.media now.media before.acts now.acts
   pub failed : agent.EndsFor how (WireFailed before now) (DiskFailed before now)
   pub opens : Opens settings how before.extent before.media
-  pub tells : Tells how ending before.held now.held (ReportFailed before now)
+  pub reports_end : ReportsEnd how ending before.written now.written (ReportFailed before now)
 
 -- ---- the command
 
@@ -114,9 +114,9 @@ pub record Runs (ending : CommandEnding) (settings : SettingsValue) (upstream : 
 abbrev pub Behaves : CommandEnding → Outside → Outside → Type 0
 Behaves (ending.Refused fault) before now =
     (now.acts ≡ before.acts) × ¬ (IsNoLineFault fault) × IfSome before.left (λ file. IsAtFault file fault)
-    × Writes before.held now.held (fault_line fault) (ReportFailed before now)
-Behaves ending.SettingsFailed before now = (now.acts ≡ before.acts) × (now.held ≡ before.held) × SourceFailed before now
-Behaves ending.NoMemory before now = (now.acts ≡ before.acts) × (now.held ≡ before.held)
+    × Writes before.written now.written (fault_line fault) (ReportFailed before now)
+Behaves ending.SettingsFailed before now = (now.acts ≡ before.acts) × (now.written ≡ before.written) × SourceFailed before now
+Behaves ending.NoMemory before now = (now.acts ≡ before.acts) × (now.written ≡ before.written)
 Behaves how before now =
     (settings : SettingsValue) × IfSome before.left (λ file. SettingsAre file settings)
     × (upstream : ℕ) × (settings.upstream ≡ Some upstream) × Runs how settings upstream before now
@@ -127,6 +127,6 @@ pub record IsReady (left : Option (List ℕ)) (media : Option Media) (extent : �
   pub seen : ℕ → ℕ
   pub sees : Sees media seen
   pub exchanges : List Exchange
-  pub holds : HoldsThe gives.settings exchanges seen
+  pub image_has : HasThe gives.settings exchanges seen
   pub store : IsStore (most_young (slots_of gives.settings)) exchanges
   pub large : needed_of (slots_of gives.settings) ≤ extent

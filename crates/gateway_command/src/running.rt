@@ -7,7 +7,7 @@ ghost use Rattle.gateway_agent.specs.declared.stopping.GatewayEnding.TheVariants
 ghost use Rattle.dots_machine.specs.Endings.{fault_line};
 ghost use Rattle.dots_machine.specs.Outside.{outside};
 ghost use Rattle.gateway_command.specs.declared.ending.CommandEnding.TheVariants as ending;
-ghost use Rattle.gateway_command.specs.Running.{has_hosted, Behaves, Runs, Reports, Tells};
+ghost use Rattle.gateway_command.specs.Running.{has_hosted, Behaves, Runs, Reports, ReportsEnd};
 
 use crate::ending::CommandEnding;
 use crate::report::write_waiting;
@@ -81,12 +81,12 @@ fn pass_requests<H: Host, K: Sink>(
     ensures leads { H.leads host.old host.new }
 {
     let how = run_gateway(alloc, settings, upstream, host);
-    tell(how, report)
+    report_end(how, report)
 }
 
 /// Writes how many exchanges wait at the end, or why the disk isn't recovered.
-fn tell<K: Sink>(how: GatewayEnding, report: &mut K) -> CommandEnding
-    ensures tells { Tells how result (K.holds report.old) (K.holds report.new) (Rose (K.faults report.old) (K.faults report.new)) }
+fn report_end<K: Sink>(how: GatewayEnding, report: &mut K) -> CommandEnding
+    ensures tells { ReportsEnd how result (K.holds report.old) (K.holds report.new) (Rose (K.faults report.old) (K.faults report.new)) }
     ensures hosted { has_hosted result ≡ true }
 {
     match how {
@@ -95,13 +95,13 @@ fn tell<K: Sink>(how: GatewayEnding, report: &mut K) -> CommandEnding
             Err(Failed) => return CommandEnding::ReportFailed { waiting },
         },
         GatewayEnding::Unopened(fault) => write_refusal(&fault, report),
-        GatewayEnding::Halted(stopped) => tell_halt(stopped, report),
+        GatewayEnding::Halted(stopped) => report_halt(stopped, report),
     }
     CommandEnding::Ran(how)
 }
 
 /// Writes why the disk wasn't recovered at a restart, where that stopped the events.
-fn tell_halt<K: Sink>(how: GatewayHalt, report: &mut K)
+fn report_halt<K: Sink>(how: GatewayHalt, report: &mut K)
     ensures { Reports (gateway.Halted how) (K.holds report.old) (K.holds report.new) (Rose (K.faults report.old) (K.faults report.new)) }
 {
     match how {

@@ -13,7 +13,7 @@ use Rattle.slot_store.proofs.Steps.{leaves_as}
 use Rattle.gateway_store.specs.Forms.{entry_of, entries_of, is_of_request}
 use Rattle.gateway_store.specs.Exchanges.{IsStore, is_young, young_at, last_number, last_time, most_young, joins, kept_at}
 use Rattle.gateway_store.specs.Stores.{StoreValue, CanKeep, once_free}
-use Rattle.gateway_store.specs.Crashes.{HoldsOne, HoldsStep, HoldsYoung, AreLeft}
+use Rattle.gateway_store.specs.Crashes.{HasOne, HasStep, HasYoung, AreLeft}
 use Rattle.gateway_store.proofs.Orders.{joined, joining, one_more, dropped_are, number_more, time_dropped}
 use Rattle.gateway_store.proofs.Young.{is_more}
 use Rattle.gateway_store.proofs.Kept.{kept_alike, where_some, where_none}
@@ -86,16 +86,16 @@ joins_left most now few all x left request same above below late room =
 
 -- ---- each step
 
-holds_young : (settings : SettingsValue) (most now : ℕ) (all few : List Exchange) (x : Exchange) (image : ℕ → ℕ) → IsStore most all → AreLeft most now few all
-    → joins most few x ≡ true → x.time ≡ now → HoldsStep settings all few x image → HoldsYoung settings most now all x image
-holds_young settings most now all few x image store left is same (inl old) =
-    record { some = all; holds = old; store = store; alike = inl (record { young = refl; number = refl }) }
-holds_young settings most now all few x image store left is same (inr (inl fewer)) =
-    record { some = few; holds = fewer; store = left.store; alike = inl left.alike }
-holds_young settings most now all few x image store left is same (inr (inr more)) =
+has_young : (settings : SettingsValue) (most now : ℕ) (all few : List Exchange) (x : Exchange) (image : ℕ → ℕ) → IsStore most all → AreLeft most now few all
+    → joins most few x ≡ true → x.time ≡ now → HasStep settings all few x image → HasYoung settings most now all x image
+has_young settings most now all few x image store left is same (inl old) =
+    record { some = all; image_has = old; store = store; alike = inl (record { young = refl; number = refl }) }
+has_young settings most now all few x image store left is same (inr (inl fewer)) =
+    record { some = few; image_has = fewer; store = left.store; alike = inl left.alike }
+has_young settings most now all few x image store left is same (inr (inr more)) =
     record {
       some = few ++ x ∷ [];
-      holds = more;
+      image_has = more;
       store = one_more most few x left.store is;
       alike = inr (record {
         young = young_more most now few all x left same ∙ sym (young_with now all x same);
@@ -104,37 +104,37 @@ holds_young settings most now all few x image store left is same (inr (inr more)
     }
 
 pub leaves_young : (old new : Option Media) (settings : SettingsValue) (most now : ℕ) (all few : List Exchange) (x : Exchange) → IsStore most all → AreLeft most now few all
-    → joins most few x ≡ true → x.time ≡ now → Leaves old new (HoldsStep settings all few x) → Leaves old new (HoldsYoung settings most now all x)
+    → joins most few x ≡ true → x.time ≡ now → Leaves old new (HasStep settings all few x) → Leaves old new (HasYoung settings most now all x)
 leaves_young old new settings most now all few x store left is same =
-    leaves_as old new (HoldsStep settings all few x) (HoldsYoung settings most now all x) (λ image. holds_young settings most now all few x image store left is same)
+    leaves_as old new (HasStep settings all few x) (HasYoung settings most now all x) (λ image. has_young settings most now all few x image store left is same)
 
-first_step : (settings : SettingsValue) (all few : List Exchange) (x : Exchange) (image : ℕ → ℕ) → HoldsOne settings all few image → HoldsStep settings all few x image
+first_step : (settings : SettingsValue) (all few : List Exchange) (x : Exchange) (image : ℕ → ℕ) → HasOne settings all few image → HasStep settings all few x image
 first_step settings all few x image (inl old) = inl old
 first_step settings all few x image (inr fewer) = inr (inl fewer)
 
-pub leaves_first : (old new : Option Media) (settings : SettingsValue) (all few : List Exchange) (x : Exchange) → Leaves old new (HoldsOne settings all few)
-    → Leaves old new (HoldsStep settings all few x)
+pub leaves_first : (old new : Option Media) (settings : SettingsValue) (all few : List Exchange) (x : Exchange) → Leaves old new (HasOne settings all few)
+    → Leaves old new (HasStep settings all few x)
 leaves_first old new settings all few x =
-    leaves_as old new (HoldsOne settings all few) (HoldsStep settings all few x) (λ image. first_step settings all few x image)
+    leaves_as old new (HasOne settings all few) (HasStep settings all few x) (λ image. first_step settings all few x image)
 
-pub leaves_second : (old new : Option Media) (settings : SettingsValue) (all few : List Exchange) (x : Exchange) → Leaves old new (HoldsOne settings few (few ++ x ∷ []))
-    → Leaves old new (HoldsStep settings all few x)
+pub leaves_second : (old new : Option Media) (settings : SettingsValue) (all few : List Exchange) (x : Exchange) → Leaves old new (HasOne settings few (few ++ x ∷ []))
+    → Leaves old new (HasStep settings all few x)
 leaves_second old new settings all few x =
-    leaves_as old new (HoldsOne settings few (few ++ x ∷ [])) (HoldsStep settings all few x) (λ image is. inr is)
+    leaves_as old new (HasOne settings few (few ++ x ∷ [])) (HasStep settings all few x) (λ image is. inr is)
 
 -- ---- before the new one is appended
 
-holds_first : (settings : SettingsValue) (most now : ℕ) (all few : List Exchange) (x : Exchange) (image : ℕ → ℕ) → IsStore most all → AreLeft most now few all
-    → HoldsOne settings all few image → HoldsYoung settings most now all x image
-holds_first settings most now all few x image store left (inl old) =
-    record { some = all; holds = old; store = store; alike = inl (record { young = refl; number = refl }) }
-holds_first settings most now all few x image store left (inr fewer) =
-    record { some = few; holds = fewer; store = left.store; alike = inl left.alike }
+has_first : (settings : SettingsValue) (most now : ℕ) (all few : List Exchange) (x : Exchange) (image : ℕ → ℕ) → IsStore most all → AreLeft most now few all
+    → HasOne settings all few image → HasYoung settings most now all x image
+has_first settings most now all few x image store left (inl old) =
+    record { some = all; image_has = old; store = store; alike = inl (record { young = refl; number = refl }) }
+has_first settings most now all few x image store left (inr fewer) =
+    record { some = few; image_has = fewer; store = left.store; alike = inl left.alike }
 
 pub leaves_young_first : (old new : Option Media) (settings : SettingsValue) (most now : ℕ) (all few : List Exchange) (x : Exchange) → IsStore most all → AreLeft most now few all
-    → Leaves old new (HoldsOne settings all few) → Leaves old new (HoldsYoung settings most now all x)
+    → Leaves old new (HasOne settings all few) → Leaves old new (HasYoung settings most now all x)
 leaves_young_first old new settings most now all few x store left =
-    leaves_as old new (HoldsOne settings all few) (HoldsYoung settings most now all x) (λ image. holds_first settings most now all few x image store left)
+    leaves_as old new (HasOne settings all few) (HasYoung settings most now all x) (λ image. has_first settings most now all few x image store left)
 
 -- ---- answers
 

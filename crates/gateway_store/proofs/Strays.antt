@@ -16,13 +16,13 @@ use Rattle.slot_store.specs.StoreValues.{JournalValue}
 use Rattle.slot_journal.specs.declared.fault.JournalFault.{JournalFault}
 use Rattle.slot_journal.specs.declared.fault.JournalFault.TheVariants as fault
 use Rattle.slot_journal.specs.Sizes.{slots_of}
-use Rattle.slot_journal.specs.DiskEntries.{HasRecord, Holds, Represents}
+use Rattle.slot_journal.specs.DiskEntries.{HasRecord, HasEntries, Represents}
 use Rattle.slot_journal.specs.Refused.{Refuses, Caused}
 use Rattle.slot_journal.specs.Untaken.{IsFailure}
-use Rattle.slot_journal.proofs.Crashing.{holds_not_refused, one_history}
+use Rattle.slot_journal.proofs.Crashing.{has_not_refused, one_history}
 use Rattle.gateway_store.specs.Forms.{entry_of, entries_of, exchange_in}
 use Rattle.gateway_store.specs.Exchanges.{IsStore, joins, most_young}
-use Rattle.gateway_store.specs.Crashes.{AreAlike, HoldsThe, HoldsYoung}
+use Rattle.gateway_store.specs.Crashes.{AreAlike, HasThe, HasYoung}
 use Rattle.gateway_store.specs.Refusing.{IsStray, RefusesEntries, RefusesStore}
 use Rattle.gateway_store.proofs.Forms.{back, only, some_same}
 use Rattle.gateway_store.proofs.Keeping.{entries_more}
@@ -75,12 +75,12 @@ used_many None settings j entries rests = absurd rests
 used_many (Some media) settings j entries rests = rests.1.represents.used ∙ length-map entries record_bytes
 
 pub refuses_stray : (settings : SettingsValue) (extent : ℕ) (seen : ℕ → ℕ) (new : Option Media) (j : JournalValue) (entries : List Entry) (why : JournalFault)
-    → j.slots ≡ slots_of settings → Holds settings seen entries → RestsWith new (Represents j settings entries) → RefusesEntries j entries why
+    → j.slots ≡ slots_of settings → HasEntries settings seen entries → RestsWith new (Represents j settings entries) → RefusesEntries j entries why
     → RefusesStore settings extent seen new why
-refuses_stray settings extent seen new j entries (fault.NotOurs at) slots holds rests why =
+refuses_stray settings extent seen new j entries (fault.NotOurs at) slots image_has rests why =
     inr (record {
       entries = entries;
-      holds = holds;
+      image_has = image_has;
       slot = why.0;
       stray = subst (λ n. IsStray (most_young n) entries why.0) slots why.1;
       there = rests_as
@@ -93,10 +93,10 @@ refuses_stray settings extent seen new j entries (fault.NotOurs at) slots holds 
           ∙ ap (λ n. place_of (slots_of settings) (n % 2) why.0) (sym represents.represents.selector))
           rests;
     })
-refuses_stray settings extent seen new j entries fault.NoMemory slots holds rests why = absurd why
-refuses_stray settings extent seen new j entries (fault.TooSmall needed found) slots holds rests why = absurd why
-refuses_stray settings extent seen new j entries (fault.SettingsChanged stored given) slots holds rests why = absurd why
-refuses_stray settings extent seen new j entries fault.DiskFault slots holds rests why = absurd why
+refuses_stray settings extent seen new j entries fault.NoMemory slots image_has rests why = absurd why
+refuses_stray settings extent seen new j entries (fault.TooSmall needed found) slots image_has rests why = absurd why
+refuses_stray settings extent seen new j entries (fault.SettingsChanged stored given) slots image_has rests why = absurd why
+refuses_stray settings extent seen new j entries fault.DiskFault slots image_has rests why = absurd why
 
 pub refuses_more : (settings : SettingsValue) (extent : ℕ) (seen : ℕ → ℕ) (new : Option Media) (why : JournalFault) → Refuses settings extent seen why
     → RefusesStore settings extent seen new why
@@ -156,23 +156,23 @@ stray_not most exchanges slot store stray =
     false≢true (sym (stray.stray found.0 found.1) ∙ found.2)
 
 pub fails_alone : (settings : SettingsValue) (extent : ℕ) (seen : ℕ → ℕ) (new : Option Media) (exchanges : List Exchange) (why : JournalFault)
-    → RefusesStore settings extent seen new why → Holds settings seen (entries_of exchanges) → IsStore (most_young (slots_of settings)) exchanges
+    → RefusesStore settings extent seen new why → HasEntries settings seen (entries_of exchanges) → IsStore (most_young (slots_of settings)) exchanges
     → needed_of (slots_of settings) ≤ extent → IsFailure why
-fails_alone settings extent seen new exchanges (fault.NotOurs at) (inl refuses) holds store size =
-    absurd (holds_not_refused settings extent seen (entries_of exchanges) (fault.NotOurs at) holds refuses tt)
-fails_alone settings extent seen new exchanges (fault.NotOurs at) (inr stray) holds store size =
-    let same = one_history settings seen (entries_of exchanges) stray.entries holds stray.holds in
+fails_alone settings extent seen new exchanges (fault.NotOurs at) (inl refuses) image_has store size =
+    absurd (has_not_refused settings extent seen (entries_of exchanges) (fault.NotOurs at) image_has refuses tt)
+fails_alone settings extent seen new exchanges (fault.NotOurs at) (inr stray) image_has store size =
+    let same = one_history settings seen (entries_of exchanges) stray.entries image_has stray.image_has in
     absurd (stray_not (most_young (slots_of settings)) exchanges stray.slot store
     (subst (λ es. IsStray (most_young (slots_of settings)) es stray.slot) (sym same) stray.stray))
-fails_alone settings extent seen new exchanges (fault.TooSmall needed found) refuses holds store size =
+fails_alone settings extent seen new exchanges (fault.TooSmall needed found) refuses image_has store size =
     let small = refuses.2 in
     let all = refuses.0 in
     let is = refuses.1 in
     absurd (omega (arith, small, all, is, size))
-fails_alone settings extent seen new exchanges (fault.SettingsChanged stored given) refuses holds store size =
-    absurd (holds_not_refused settings extent seen (entries_of exchanges) (fault.SettingsChanged stored given) holds refuses tt)
-fails_alone settings extent seen new exchanges fault.DiskFault refuses holds store size = tt
-fails_alone settings extent seen new exchanges fault.NoMemory refuses holds store size = tt
+fails_alone settings extent seen new exchanges (fault.SettingsChanged stored given) refuses image_has store size =
+    absurd (has_not_refused settings extent seen (entries_of exchanges) (fault.SettingsChanged stored given) image_has refuses tt)
+fails_alone settings extent seen new exchanges fault.DiskFault refuses image_has store size = tt
+fails_alone settings extent seen new exchanges fault.NoMemory refuses image_has store size = tt
 
 -- ---- one list of entries has one list of exchanges
 
@@ -199,10 +199,10 @@ pub same_exchanges : (most : ℕ) (one other : List Exchange) → IsStore most o
 same_exchanges most one other = same_behind most [] one other
 
 pub young_survive : (settings : SettingsValue) (most now : ℕ) (exchanges found : List Exchange) (x : Exchange) (image : ℕ → ℕ)
-    → HoldsYoung settings most now exchanges x image → IsStore most found → HoldsThe settings found image
+    → HasYoung settings most now exchanges x image → IsStore most found → HasThe settings found image
     → AreAlike now found exchanges ⊎ AreAlike now found (exchanges ++ x ∷ [])
-young_survive settings most now exchanges found x image left store holds =
+young_survive settings most now exchanges found x image left store image_has =
     subst
     (λ l. AreAlike now l exchanges ⊎ AreAlike now l (exchanges ++ x ∷ []))
-    (same_exchanges most left.some found left.store store (one_history settings image (entries_of left.some) (entries_of found) left.holds holds))
+    (same_exchanges most left.some found left.store store (one_history settings image (entries_of left.some) (entries_of found) left.image_has image_has))
     left.alike

@@ -10,11 +10,11 @@ use Rattle.dots_history.specs.declared.entry.Entry.{Entry}
 use Rattle.dots_gateway.specs.declared.exchange.Exchange.{Exchange}
 use Rattle.slot_store.specs.Copying.{AreSlots}
 use Rattle.slot_store.specs.StoreValues.{JournalValue}
-use Rattle.slot_journal.specs.DiskEntries.{HoldsEither, Represents, entries_at}
+use Rattle.slot_journal.specs.DiskEntries.{HasEither, Represents, entries_at}
 use Rattle.gateway_store.specs.Forms.{entry_of, entries_of}
 use Rattle.gateway_store.specs.Exchanges.{kept_at}
 use Rattle.gateway_store.specs.Stores.{StoreValue, IsOn}
-use Rattle.gateway_store.specs.Crashes.{HoldsOne}
+use Rattle.gateway_store.specs.Crashes.{HasOne}
 use Rattle.gateway_store.proofs.Keeping.{entries_more}
 use Rattle.gateway_store.proofs.Sizes.{range_part}
 use Rattle.gateway_store.proofs.Slots.{are_slots, last_there}
@@ -41,14 +41,14 @@ module _ (numbers : List ℕ) (slots first many : ℕ) (are : numbers ≡ range_
 
 pub leaves_kept : (start end : Option Media) (settings : SettingsValue) (now : ℕ) (store whole : StoreValue) (keep : List ℕ) → store ≡ whole
     → entries_at (entries_of store.exchanges) keep ≡ entries_of (kept_at now store.exchanges)
-    → (RestsWith start (IsOn settings store) → Leaves start end (HoldsEither settings (entries_of store.exchanges) (entries_at (entries_of store.exchanges) keep)))
-    → RestsWith start (IsOn settings whole) → Leaves start end (HoldsOne settings whole.exchanges (kept_at now whole.exchanges))
+    → (RestsWith start (IsOn settings store) → Leaves start end (HasEither settings (entries_of store.exchanges) (entries_at (entries_of store.exchanges) keep)))
+    → RestsWith start (IsOn settings whole) → Leaves start end (HasOne settings whole.exchanges (kept_at now whole.exchanges))
 leaves_kept start end settings now store whole keep same kept leaves rests =
     subst
-    (λ (s : StoreValue). Leaves start end (HoldsOne settings s.exchanges (kept_at now s.exchanges)))
+    (λ (s : StoreValue). Leaves start end (HasOne settings s.exchanges (kept_at now s.exchanges)))
     same
     (subst
-    (λ (es : List Entry). Leaves start end (HoldsEither settings (entries_of store.exchanges) es))
+    (λ (es : List Entry). Leaves start end (HasEither settings (entries_of store.exchanges) es))
     kept
     (leaves (subst (λ (s : StoreValue). RestsWith start (IsOn settings s)) (sym same) rests)))
 
@@ -65,14 +65,14 @@ rests_kept start end settings store whole journal few keep same kept goes rests 
 -- ---- one entry more
 
 pub leaves_appended : (start end : Option Media) (settings : SettingsValue) (store whole : StoreValue) (x : Exchange) → store ≡ whole
-    → (RestsWith start (IsOn settings store) → Leaves start end (HoldsEither settings (entries_of store.exchanges) (entries_of store.exchanges ++ entry_of x ∷ [])))
-    → RestsWith start (IsOn settings whole) → Leaves start end (HoldsOne settings whole.exchanges (whole.exchanges ++ x ∷ []))
+    → (RestsWith start (IsOn settings store) → Leaves start end (HasEither settings (entries_of store.exchanges) (entries_of store.exchanges ++ entry_of x ∷ [])))
+    → RestsWith start (IsOn settings whole) → Leaves start end (HasOne settings whole.exchanges (whole.exchanges ++ x ∷ []))
 leaves_appended start end settings store whole x same leaves rests =
     subst
-    (λ (s : StoreValue). Leaves start end (HoldsOne settings s.exchanges (s.exchanges ++ x ∷ [])))
+    (λ (s : StoreValue). Leaves start end (HasOne settings s.exchanges (s.exchanges ++ x ∷ [])))
     same
     (subst
-    (λ (es : List Entry). Leaves start end (HoldsEither settings (entries_of store.exchanges) es))
+    (λ (es : List Entry). Leaves start end (HasEither settings (entries_of store.exchanges) es))
     (sym (entries_more store.exchanges x))
     (leaves (subst (λ (s : StoreValue). RestsWith start (IsOn settings s)) (sym same) rests)))
 

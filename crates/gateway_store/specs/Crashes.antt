@@ -2,21 +2,21 @@
 use Rattle.std.specs.Prelude.{◌≡◌, ℕ, ◌⊎◌, List, [], ◌∷◌, ◌++◌}
 use Rattle.dots_settings.specs.Settings.{SettingsValue}
 use Rattle.dots_gateway.specs.declared.exchange.Exchange.{Exchange}
-use Rattle.slot_journal.specs.DiskEntries.{Holds}
+use Rattle.slot_journal.specs.DiskEntries.{HasEntries}
 use Rattle.gateway_store.specs.Forms.{entries_of}
 use Rattle.gateway_store.specs.Exchanges.{IsStore, young_at, last_number, last_time}
 
 -- the entries of these exchanges
-abbrev pub HoldsThe : SettingsValue → List Exchange → (ℕ → ℕ) → Type 0
-HoldsThe settings exchanges image = Holds settings image (entries_of exchanges)
+abbrev pub HasThe : SettingsValue → List Exchange → (ℕ → ℕ) → Type 0
+HasThe settings exchanges image = HasEntries settings image (entries_of exchanges)
 
 -- of these, or of others
-abbrev pub HoldsOne : SettingsValue → List Exchange → List Exchange → (ℕ → ℕ) → Type 0
-HoldsOne settings first second image = HoldsThe settings first image ⊎ HoldsThe settings second image
+abbrev pub HasOne : SettingsValue → List Exchange → List Exchange → (ℕ → ℕ) → Type 0
+HasOne settings first second image = HasThe settings first image ⊎ HasThe settings second image
 
 -- of these, of the few that a compaction keeps of them, or of the few and one more
-abbrev pub HoldsStep : SettingsValue → List Exchange → List Exchange → Exchange → (ℕ → ℕ) → Type 0
-HoldsStep settings all few x image = HoldsThe settings all image ⊎ HoldsOne settings few (few ++ x ∷ []) image
+abbrev pub HasStep : SettingsValue → List Exchange → List Exchange → Exchange → (ℕ → ℕ) → Type 0
+HasStep settings all few x image = HasThe settings all image ⊎ HasOne settings few (few ++ x ∷ []) image
 
 -- At this time the same exchanges are young in both, and the last numbers are the same.
 pub record AreAlike (now : ℕ) (some others : List Exchange) : Type 0 where
@@ -30,8 +30,8 @@ pub record AreLeft (most now : ℕ) (few all : List Exchange) : Type 0 where
   pub time : last_time few ≡ last_time all
 
 -- The image holds a store in which each exchange stands that is young at this time, or these and one more.
-pub record HoldsYoung (settings : SettingsValue) (most now : ℕ) (exchanges : List Exchange) (x : Exchange) (image : ℕ → ℕ) : Type 0 where
+pub record HasYoung (settings : SettingsValue) (most now : ℕ) (exchanges : List Exchange) (x : Exchange) (image : ℕ → ℕ) : Type 0 where
   pub some : List Exchange
-  pub holds : HoldsThe settings some image
+  pub image_has : HasThe settings some image
   pub store : IsStore most some
   pub alike : AreAlike now some exchanges ⊎ AreAlike now some (exchanges ++ x ∷ [])

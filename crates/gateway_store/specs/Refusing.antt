@@ -10,7 +10,7 @@ use Rattle.slot_store.specs.StoreValues.{JournalValue}
 use Rattle.slot_journal.specs.declared.fault.JournalFault.{JournalFault}
 use Rattle.slot_journal.specs.declared.fault.JournalFault.TheVariants as fault
 use Rattle.slot_journal.specs.Sizes.{slots_of}
-use Rattle.slot_journal.specs.DiskEntries.{Holds}
+use Rattle.slot_journal.specs.DiskEntries.{HasEntries}
 use Rattle.slot_journal.specs.Refused.{Refuses}
 use Rattle.gateway_store.specs.Forms.{entries_of, exchange_in}
 use Rattle.gateway_store.specs.Exchanges.{IsStore, joins, most_young}
@@ -38,14 +38,14 @@ RefusesEntries journal entries _ = ⊥
 
 -- A disk holds entries, one of which is stray: the place is that of its slot, in the half that is in use by what the disk rests with in
 -- the end.
-pub record HoldsStray (settings : SettingsValue) (seen : ℕ → ℕ) (now : Option Media) (at : ℕ) : Type 0 where
+pub record HasStray (settings : SettingsValue) (seen : ℕ → ℕ) (now : Option Media) (at : ℕ) : Type 0 where
   pub entries : List Entry
-  pub holds : Holds settings seen entries
+  pub image_has : HasEntries settings seen entries
   pub slot : ℕ
   pub stray : IsStray (most_young (slots_of settings)) entries slot
   pub there : RestsWith now (λ image. at ≡ place_of (slots_of settings) (image 48 % 2) slot)
 
 -- why no store opens: the journal isn't recovered, or holds a stray entry
 abbrev pub RefusesStore : SettingsValue → ℕ → (ℕ → ℕ) → Option Media → JournalFault → Type 0
-RefusesStore settings extent seen now (fault.NotOurs at) = Refuses settings extent seen (fault.NotOurs at) ⊎ HoldsStray settings seen now at
+RefusesStore settings extent seen now (fault.NotOurs at) = Refuses settings extent seen (fault.NotOurs at) ⊎ HasStray settings seen now at
 RefusesStore settings extent seen now why = Refuses settings extent seen why

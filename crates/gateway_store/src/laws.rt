@@ -9,7 +9,7 @@ ghost use Rattle.dots_gateway.specs.Exchanges.{left_at, waiting_again};
 ghost use Rattle.dots_laws.specs.Calm.{is_own};
 ghost use Rattle.entry_records.specs.Values.{IsEntry};
 ghost use Rattle.slot_journal.specs.Untaken.{IsApart};
-ghost use Rattle.gateway_store.specs.Crashes.{AreAlike, HoldsThe, HoldsYoung};
+ghost use Rattle.gateway_store.specs.Crashes.{AreAlike, HasThe, HasYoung};
 ghost use Rattle.gateway_store.specs.Exchanges.{IsStore, last_time, young_at};
 ghost use Rattle.gateway_store.specs.Forms.{entry_of, exchange_domain, exchange_in, is_of_request};
 ghost use Rattle.gateway_store.specs.Refusing.{IsStray};
@@ -44,6 +44,6 @@ pub fn young_wait()
 /// these and the new one, and its last number is that of the same.
 pub fn young_survive()
     ensures { (settings : SettingsValue) (most now : ℕ) (exchanges found : List Exchange) (x : Exchange) (image : ℕ → ℕ)
-        → HoldsYoung settings most now exchanges x image → IsStore most found → HoldsThe settings found image
+        → HasYoung settings most now exchanges x image → IsStore most found → HasThe settings found image
         → AreAlike now found exchanges ⊎ AreAlike now found (exchanges ++ x ∷ []) }
 {}

@@ -9,12 +9,12 @@ ghost use Rattle.dots_history.specs.declared.entry.Entry.{Entry};
 ghost use Rattle.slot_store.specs.Gates.{Sees};
 ghost use Rattle.slot_store.specs.Layout.{needed_of};
 ghost use Rattle.slot_store.specs.Opening.{Is};
-ghost use Rattle.slot_journal.specs.DiskEntries.{Holds, Represents};
+ghost use Rattle.slot_journal.specs.DiskEntries.{HasEntries, Represents};
 ghost use Rattle.slot_journal.specs.Refused.{Caused};
 ghost use Rattle.slot_journal.specs.Sizes.{slots_of};
 ghost use Rattle.slot_journal.specs.Untaken.{IsFailure};
 ghost use Rattle.slot_journal.specs.declared.fault.JournalFault.{JournalFault};
-ghost use Rattle.gateway_store.specs.Crashes.{HoldsThe};
+ghost use Rattle.gateway_store.specs.Crashes.{HasThe};
 ghost use Rattle.gateway_store.specs.Exchanges.{IsStore, last_time, most_young, next_number};
 ghost use Rattle.gateway_store.specs.Forms.{entries_of};
 ghost use Rattle.gateway_store.specs.Refusing.{RefusesStore};
@@ -51,12 +51,12 @@ impl Store {
         settings: &Settings,
     ) -> Result<(Self, ExchangeList, u64), JournalFault>
         // A disk on which nothing was pending holds the same list at each moment.
-        ensures moments { (seen : ℕ → ℕ) (entries : List Entry) → RestsWith (D.media disk.old) (Is seen) → Holds settings.now seen entries
-            → Leaves (D.media disk.old) (D.media disk.new) (λ image. Holds settings.now image entries) }
+        ensures moments { (seen : ℕ → ℕ) (entries : List Entry) → RestsWith (D.media disk.old) (Is seen) → HasEntries settings.now seen entries
+            → Leaves (D.media disk.old) (D.media disk.new) (λ image. HasEntries settings.now image entries) }
 
         // The store has what the disk held, and the disk rests with that.
         ensures opened { IfOk result (λ found. (seen : ℕ → ℕ) → Sees (D.media disk.old) seen
-            → HoldsThe settings.now found.0.exchanges seen × RestsWith (D.media disk.new) (IsOn settings.now found.0)) }
+            → HasThe settings.now found.0.exchanges seen × RestsWith (D.media disk.new) (IsOn settings.now found.0)) }
         ensures store { IfOk result (λ found. IsStore (most_young found.0.journal.slots) found.0.exchanges) }
         ensures early { IfOk result (λ found. last_time found.0.exchanges < 2 ^ 48) }
         ensures exchanges { IfOk result (λ found. (found.1 ≡ found.0.exchanges) × (found.2 ≡ next_number found.0.exchanges)) }
@@ -66,12 +66,12 @@ impl Store {
         // A disk is refused for a cause that it has, and one that holds a store isn't refused.
         ensures refused { IfErr result (λ fault. (seen : ℕ → ℕ) → Sees (D.media disk.old) seen
             → RefusesStore settings.now (D.extent disk.old) seen (D.media disk.new) fault) }
-        ensures complete { IfErr result (λ fault. (seen : ℕ → ℕ) (exchanges : List Exchange) → Sees (D.media disk.old) seen → HoldsThe settings.now exchanges seen
+        ensures complete { IfErr result (λ fault. (seen : ℕ → ℕ) (exchanges : List Exchange) → Sees (D.media disk.old) seen → HasThe settings.now exchanges seen
             → IsStore (most_young (slots_of settings.now)) exchanges → needed_of (slots_of settings.now) ≤ D.extent disk.old → IsFailure fault) }
 
         // Where the disk is refused, and none of its calls failed, nothing was written; or it held a list, and holds it still.
         ensures unwritten { IfErr result (λ fault. (seen : ℕ → ℕ) → fault ≢ JournalFault.DiskFault → RestsWith (D.media disk.old) (Is seen)
-            → RestsWith (D.media disk.new) (Is seen) ⊎ ((entries : List Entry) × Holds settings.now seen entries)) }
+            → RestsWith (D.media disk.new) (Is seen) ⊎ ((entries : List Entry) × HasEntries settings.now seen entries)) }
 
         ensures extent { D.extent disk.new ≡ D.extent disk.old }
         ensures cause { Caused (D.faults disk.old) (D.faults disk.new) result }
@@ -125,10 +125,10 @@ fn fill<D: Disk>(
 ) -> Result<Journal, JournalFault>
     requires first { exchanges.old.items ≡ [] }
     requires room { slots_of settings.now ≤ vec_capacity exchanges.old }
-    ensures moments { (seen : ℕ → ℕ) (entries : List Entry) → RestsWith (D.media disk.old) (Is seen) → Holds settings.now seen entries
-        → Leaves (D.media disk.old) (D.media disk.new) (λ image. Holds settings.now image entries) }
+    ensures moments { (seen : ℕ → ℕ) (entries : List Entry) → RestsWith (D.media disk.old) (Is seen) → HasEntries settings.now seen entries
+        → Leaves (D.media disk.old) (D.media disk.new) (λ image. HasEntries settings.now image entries) }
     ensures recovered { IfOk result (λ journal. (seen : ℕ → ℕ) → Sees (D.media disk.old) seen
-        → HoldsThe settings.now exchanges.new.items seen
+        → HasThe settings.now exchanges.new.items seen
         × RestsWith (D.media disk.new) (Represents journal settings.now (entries_of exchanges.new.items))) }
     ensures store { OnOk result (IsStore (most_young (slots_of settings.now)) exchanges.new.items) }
     ensures early { OnOk result (last_time exchanges.new.items < 2 ^ 48) }
@@ -138,7 +138,7 @@ fn fill<D: Disk>(
     ensures refused { IfErr result (λ fault. (seen : ℕ → ℕ) → Sees (D.media disk.old) seen
         → RefusesStore settings.now (D.extent disk.old) seen (D.media disk.new) fault) }
     ensures unwritten { IfErr result (λ fault. (seen : ℕ → ℕ) → fault ≢ JournalFault.DiskFault → RestsWith (D.media disk.old) (Is seen)
-        → RestsWith (D.media disk.new) (Is seen) ⊎ ((entries : List Entry) × Holds settings.now seen entries)) }
+        → RestsWith (D.media disk.new) (Is seen) ⊎ ((entries : List Entry) × HasEntries settings.now seen entries)) }
     ensures extent { D.extent disk.new ≡ D.extent disk.old }
     ensures cause { Caused (D.faults disk.old) (D.faults disk.new) result }
     ensures beside { D.beside disk.old disk.new }

@@ -7,9 +7,9 @@ ghost use Rattle.dots_settings.specs.Settings.{SettingsValue};
 ghost use Rattle.dots_history.specs.declared.entry.Entry.{Entry};
 ghost use Rattle.slot_store.specs.Copying.{other_selector};
 ghost use Rattle.slot_store.specs.Layout.{needed_of};
-ghost use Rattle.slot_journal.specs.DiskEntries.{HoldsEither, Represents};
+ghost use Rattle.slot_journal.specs.DiskEntries.{HasEither, Represents};
 ghost use Rattle.dots_gateway.specs.Exchanges.{AreRestorable};
-ghost use Rattle.gateway_store.specs.Crashes.{AreLeft, HoldsOne, HoldsStep, HoldsYoung};
+ghost use Rattle.gateway_store.specs.Crashes.{AreLeft, HasOne, HasStep, HasYoung};
 ghost use Rattle.gateway_store.specs.Exchanges.{IsStore, joins, kept_at, last_number, last_time, most_young, next_number, young_at};
 ghost use Rattle.gateway_store.specs.Forms.{entry_of};
 ghost use Rattle.gateway_store.specs.Stores.{AreReplies, CanKeep, IsOn, once_free};
@@ -117,11 +117,11 @@ impl Store {
 
         // At each moment each image holds a store with the young exchanges, or with these and the new one.
         ensures moments { (settings : SettingsValue) → RestsWith (D.media disk.old) (IsOn settings self.old)
-            → Leaves (D.media disk.old) (D.media disk.new) (HoldsYoung settings (most_young self.old.journal.slots) now self.old.exchanges exchange.now) }
+            → Leaves (D.media disk.old) (D.media disk.new) (HasYoung settings (most_young self.old.journal.slots) now self.old.exchanges exchange.now) }
 
         // It holds the exchanges as before, those that are left once a slot is free, or these and the new one; in the end the last alone.
         ensures steps { (settings : SettingsValue) → RestsWith (D.media disk.old) (IsOn settings self.old)
-            → Leaves (D.media disk.old) (D.media disk.new) (HoldsStep settings self.old.exchanges (once_free now self.old) exchange.now) }
+            → Leaves (D.media disk.old) (D.media disk.new) (HasStep settings self.old.exchanges (once_free now self.old) exchange.now) }
         ensures rests { OnOk result ((settings : SettingsValue) → RestsWith (D.media disk.old) (IsOn settings self.old)
             → RestsWith (D.media disk.new) (IsOn settings self.new)) }
         ensures kept { OnOk result (self.new.exchanges ≡ once_free now self.old ++ exchange.now ∷ []) }
@@ -145,7 +145,7 @@ impl Store {
         requires size { needed_of self.old.journal.slots ≤ D.extent disk.old }
         requires room { length (young_at now self.old.exchanges) < most_young self.old.journal.slots }
         ensures moments { (settings : SettingsValue) → RestsWith (D.media disk.old) (IsOn settings self.old)
-            → Leaves (D.media disk.old) (D.media disk.new) (HoldsOne settings self.old.exchanges (once_free now self.old)) }
+            → Leaves (D.media disk.old) (D.media disk.new) (HasOne settings self.old.exchanges (once_free now self.old)) }
         ensures store { IsStore (most_young self.old.journal.slots) self.old.exchanges }
         ensures few { AreLeft (most_young self.old.journal.slots) now (once_free now self.old) self.old.exchanges }
         ensures made { OnOk result (self.new.exchanges ≡ once_free now self.old) }
@@ -170,7 +170,7 @@ impl Store {
         requires some { 0 < self.old.journal.used }
         requires room { length (young_at now self.old.exchanges) < most_young self.old.journal.slots }
         ensures moments { (settings : SettingsValue) → RestsWith (D.media disk.old) (IsOn settings self.old)
-            → Leaves (D.media disk.old) (D.media disk.new) (HoldsOne settings self.old.exchanges (kept_at now self.old.exchanges)) }
+            → Leaves (D.media disk.old) (D.media disk.new) (HasOne settings self.old.exchanges (kept_at now self.old.exchanges)) }
         ensures made { OnOk result (self.new.exchanges ≡ kept_at now self.old.exchanges) }
         ensures free { OnOk result (self.new.journal.used < self.new.journal.slots) }
         ensures rests { OnOk result ((settings : SettingsValue) → RestsWith (D.media disk.old) (IsOn settings self.old)
@@ -196,7 +196,7 @@ impl Store {
         requires joins { length exchange.now.token ≤ 8 → joins (most_young self.old.journal.slots) self.old.exchanges exchange.now ≡ true }
         ensures joins { joins (most_young self.old.journal.slots) self.old.exchanges exchange.now ≡ true }
         ensures moments { (settings : SettingsValue) → RestsWith (D.media disk.old) (IsOn settings self.old)
-            → Leaves (D.media disk.old) (D.media disk.new) (HoldsOne settings self.old.exchanges (self.old.exchanges ++ exchange.now ∷ [])) }
+            → Leaves (D.media disk.old) (D.media disk.new) (HasOne settings self.old.exchanges (self.old.exchanges ++ exchange.now ∷ [])) }
         ensures appended { OnOk result (self.new.exchanges ≡ self.old.exchanges ++ exchange.now ∷ []) }
         ensures rests { OnOk result ((settings : SettingsValue) → RestsWith (D.media disk.old) (IsOn settings self.old)
             → RestsWith (D.media disk.new) (IsOn settings self.new)) }
@@ -261,7 +261,7 @@ fn append_entry<D: Disk>(
     ensures next { OnOk result (journal.new ≡ record journal.old { used = journal.old.used + 1 }) }
     ensures same { OnErr result (journal.new ≡ journal.old) }
     ensures moments { (settings : SettingsValue) (entries : List Entry) → RestsWith (D.media disk.old) (Represents journal.old settings entries)
-        → Leaves (D.media disk.old) (D.media disk.new) (HoldsEither settings entries (entries ++ entry_of exchange.now ∷ [])) }
+        → Leaves (D.media disk.old) (D.media disk.new) (HasEither settings entries (entries ++ entry_of exchange.now ∷ [])) }
     ensures rests { OnOk result ((settings : SettingsValue) (entries : List Entry) → RestsWith (D.media disk.old) (Represents journal.old settings entries)
         → RestsWith (D.media disk.new) (Represents journal.new settings (entries ++ entry_of exchange.now ∷ []))) }
     ensures extent { D.extent disk.new ≡ D.extent disk.old }

@@ -13,9 +13,9 @@ use Rattle.dots_history.specs.Histories.{or_else}
 use Rattle.dots_history.proofs.Remembering.{or_none}
 use Rattle.dots_laws.specs.Capacities.{loses_as}
 use Rattle.dots_laws.specs.Views.{held_with}
-use Rattle.held_resources.specs.declared.sessions.Session.{Session}
+use Rattle.held_resources.specs.declared.configurations.Configuration.{Configuration}
 use Rattle.dots_laws.specs.Held.{config_set, config_of}
-use Rattle.held_resources.specs.Tables.{Sizes, configured, session_with, session_of, peer_of, is_placed, is_known, config_in}
+use Rattle.held_resources.specs.Tables.{Sizes, configured, configuration_with, configuration_of, peer_of, is_placed, is_known, config_in}
 use Rattle.dots_laws.proofs.Written.{some_of_both, or_no, not_resumed}
 use Rattle.held_resources.proofs.Holdings.{turned_eq}
 
@@ -153,14 +153,14 @@ config_with peer e es =
           ∙ sym (cond-false (e.peer == peer) (configured e.change (config_of peer es)) (config_of peer es) other)
     ]
 
-pub sessions_with : (e : Entry) (es : List Entry) (peers : List ℕ) → map (session_with e) (map (session_of es) peers) ≡ map (session_of (held_with e es)) peers
-sessions_with e es [] = refl
-sessions_with e es (p ∷ peers) =
-    ap (λ config. session_by p config ∷ map (session_with e) (map (session_of es) peers)) (sym (config_with p e es))
-    ∙ ap (λ rest. session_of (held_with e es) p ∷ rest) (sessions_with e es peers)
+pub configurations_with : (e : Entry) (es : List Entry) (peers : List ℕ) → map (configuration_with e) (map (configuration_of es) peers) ≡ map (configuration_of (held_with e es)) peers
+configurations_with e es [] = refl
+configurations_with e es (p ∷ peers) =
+    ap (λ config. configuration_by p config ∷ map (configuration_with e) (map (configuration_of es) peers)) (sym (config_with p e es))
+    ∙ ap (λ rest. configuration_of (held_with e es) p ∷ rest) (configurations_with e es peers)
   where
-    session_by : ℕ → Option (ℕ × Config) → Session
-    session_by peer config = record { peer = peer; config = config }
+    configuration_by : ℕ → Option (ℕ × Config) → Configuration
+    configuration_by peer config = record { peer = peer; config = config }
 
 -- what an entry that configures nothing makes of sessions
 quiet : (c : Change) (o : Option (ℕ × Config)) → is_configuration c ≡ false → configured c o ≡ o
@@ -169,13 +169,13 @@ quiet (change.SetConfig sid config) o out = absurd (false≢true (sym out))
 quiet change.ClearConfig o out = absurd (false≢true (sym out))
 quiet _ o out = refl
 
-pub as_before : (e : Entry) (sessions : List Session) → is_configuration e.change ≡ false → map (session_with e) sessions ≡ sessions
+pub as_before : (e : Entry) (configurations : List Configuration) → is_configuration e.change ≡ false → map (configuration_with e) configurations ≡ configurations
 as_before e [] out = refl
-as_before e (s ∷ sessions) out =
+as_before e (s ∷ configurations) out =
     ap
-    (λ (config : Option (ℕ × Config)). record { peer = s.peer; config = config } ∷ map (session_with e) sessions)
+    (λ (config : Option (ℕ × Config)). record { peer = s.peer; config = config } ∷ map (configuration_with e) configurations)
     (cond_both (e.peer == s.peer) (configured e.change s.config) s.config (λ o. o ≡ s.config) (λ is. quiet e.change s.config out) (λ no. refl))
-    ∙ ap (λ rest. s ∷ rest) (as_before e sessions out)
+    ∙ ap (λ rest. s ∷ rest) (as_before e configurations out)
 
 -- ---- which peers
 set_configures : (c : Change) (s : ℕ × Config) → config_set c ≡ Some s → is_configuration c ≡ true
@@ -205,21 +205,21 @@ no_config sizes peer (x ∷ xs) all out =
         (set_configures x.change s both.1))
         ∙ (and_parts (is_placed sizes x) (not (is_loss x.change) || list_any (loses_as x) sizes.own) known).0))
 
-pub find_session : (peer : ℕ) (es : List Entry) (peers : List ℕ)
-    → config_in (find (λ (s : Session). peer == s.peer) (map (session_of es) peers)) ≡ cond (list_any (λ p. peer == p) peers) (config_of peer es) None
-find_session peer es [] = refl
-find_session peer es (p ∷ peers) =
+pub find_configuration : (peer : ℕ) (es : List Entry) (peers : List ℕ)
+    → config_in (find (λ (s : Configuration). peer == s.peer) (map (configuration_of es) peers)) ≡ cond (list_any (λ p. peer == p) peers) (config_of peer es) None
+find_configuration peer es [] = refl
+find_configuration peer es (p ∷ peers) =
     elim (cases_Bool (peer == p)) [
       | inl is ↦
-          ap config_in (cond-true (peer == p) (Some (session_of es p)) (find (λ (s : Session). peer == s.peer) (map (session_of es) peers)) is)
+          ap config_in (cond-true (peer == p) (Some (configuration_of es p)) (find (λ (s : Configuration). peer == s.peer) (map (configuration_of es) peers)) is)
           ∙ ap (λ q. config_of q es) (sym (eqb-true peer p is))
           ∙ sym (cond-true (list_any (λ p. peer == p) (p ∷ peers)) (config_of peer es) None (or_left (peer == p) (list_any (λ p. peer == p) peers) is))
       | inr out ↦
-          ap config_in (cond-false (peer == p) (Some (session_of es p)) (find (λ (s : Session). peer == s.peer) (map (session_of es) peers)) out)
-          ∙ find_session peer es peers
+          ap config_in (cond-false (peer == p) (Some (configuration_of es p)) (find (λ (s : Configuration). peer == s.peer) (map (configuration_of es) peers)) out)
+          ∙ find_configuration peer es peers
           ∙ sym (ap (λ b. cond (b || list_any (λ p. peer == p) peers) (config_of peer es) None) out)
     ]
 
-pub any_peer : (peer : ℕ) (sessions : List Session) → list_any (λ other. peer == other) (map peer_of sessions) ≡ list_any (λ (s : Session). peer == s.peer) sessions
+pub any_peer : (peer : ℕ) (configurations : List Configuration) → list_any (λ other. peer == other) (map peer_of configurations) ≡ list_any (λ (s : Configuration). peer == s.peer) configurations
 any_peer peer [] = refl
-any_peer peer (s ∷ sessions) = ap (λ b. (peer == s.peer) || b) (any_peer peer sessions)
+any_peer peer (s ∷ configurations) = ap (λ b. (peer == s.peer) || b) (any_peer peer configurations)

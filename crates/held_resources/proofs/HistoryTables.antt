@@ -22,16 +22,16 @@ use Rattle.dots_laws.proofs.GoingOn.{held_push}
 use Rattle.dots_laws.proofs.Joining.{owned_with}
 use Rattle.dots_laws.proofs.Single.{of_itself, is_of_client, client_is_of}
 use Rattle.held_resources.specs.declared.rooms.Rooms.{Rooms}
-use Rattle.held_resources.specs.declared.sessions.Session.{Session}
+use Rattle.held_resources.specs.declared.configurations.Configuration.{Configuration}
 use Rattle.held_resources.specs.declared.signals.Signal.{Signal}
 use Rattle.dots_laws.specs.Held.{aliases_of, acls_of, registers, is_registered, registrant, config_of}
 use Rattle.dots_laws.specs.Filed.{Filed}
 use Rattle.held_resources.specs.Rows.{HeldRows, rows_more}
-use Rattle.held_resources.specs.Tables.{SameButSlots, Sizes, Tables, Clients, Holding, Have, Represents, KeepsRoom, is_placed, is_known, holding_of, holdings, clients_of, clients_with, list_with, has_cuid, aliases_with, acls_with, update, tables_with, session_with, session_of, no_session, peer_of, no_clients, rooms_of, sizes_of, client_at, in_clients, registrant_in, aliases_in, acls_in, number_in, config_in, own_of, no_loss, signal_with, signal_of, lost_in}
+use Rattle.held_resources.specs.Tables.{SameButSlots, Sizes, Tables, Clients, Holding, Have, Represents, KeepsRoom, is_placed, is_known, holding_of, holdings, clients_of, clients_with, list_with, has_cuid, aliases_with, acls_with, update, tables_with, configuration_with, configuration_of, no_configuration, peer_of, no_clients, rooms_of, sizes_of, client_at, in_clients, registrant_in, aliases_in, acls_in, number_in, config_in, own_of, no_loss, signal_with, signal_of, lost_in}
 use Rattle.held_resources.specs.Accepting.{keeps_rooms, keeps_room, takes, Takes, rightly, takes_in, accepts_by, accepts}
 use Rattle.dots_laws.proofs.Written.{other_way, own_aliases, own_acls, number_of_aliases, number_of_acls, no_aliases, no_acls}
 use Rattle.held_resources.proofs.Holdings.{IsFresh, length_holdings, own_holdings, others_holdings, any_is, still_some, find_client, any_client, if_registered, registered_cases, not_registered}
-use Rattle.held_resources.proofs.Configs.{sessions_with, no_config, find_session}
+use Rattle.held_resources.proofs.Configs.{configurations_with, no_config, find_configuration}
 use Rattle.held_resources.proofs.Losses.{signals_with, find_lost}
 
 -- ---- places
@@ -180,10 +180,10 @@ module _ (tables : Tables) (es : List Entry) (have : Have tables es) where
       by_clients (Some clients) some =
           ap (λ (c : Clients). length c.list) (have.clients domain clients some) ∙ length_holdings tables.sizes.rooms domain es es
 
-  pub config_is : (peer : ℕ) → config_in (find (λ (s : Session). peer == s.peer) tables.sessions) ≡ config_of peer es
+  pub config_is : (peer : ℕ) → config_in (find (λ (s : Configuration). peer == s.peer) tables.configurations) ≡ config_of peer es
   config_is peer =
-      ap (λ sessions. config_in (find (λ (s : Session). peer == s.peer) sessions)) have.sessions
-      ∙ find_session peer es tables.sizes.peers
+      ap (λ configurations. config_in (find (λ (s : Configuration). peer == s.peer) configurations)) have.configurations
+      ∙ find_configuration peer es tables.sizes.peers
       ∙ cond_both
       (list_any (λ p. peer == p) tables.sizes.peers)
       (config_of peer es)
@@ -428,7 +428,7 @@ module _ (tables : Tables) (es : List Entry) (have : Have tables es) (e : Entry)
       record {
         domains = length_updated (clients_with e.peer e.cuid e.change) e.domain tables.clients ∙ have.domains;
         clients = λ domain clients some. by_domain right domain clients some (cases_Bool (e.domain == domain));
-        sessions = ap (map (session_with e)) have.sessions ∙ sessions_with e es tables.sizes.peers;
+        configurations = ap (map (configuration_with e)) have.configurations ∙ configurations_with e es tables.sizes.peers;
         signals = ap (map (signal_with e)) have.signals ∙ signals_with e es tables.sizes.own;
         owned = owned_with
             e
@@ -522,37 +522,37 @@ pub accepted_by : (tables : Tables) (before : List Entry) (e : Entry) → Repres
 accepted_by tables before e represents = accepts_held tables.sizes before e ∙ accepts_is tables (held before) represents e
 
 -- ---- as the fields have it
-abbrev pub tables_of : Rooms → List Clients → List Session → List Signal → HeldRows → Tables
-tables_of rooms clients sessions signals slots = record {
-  sizes = record { domains = length clients; rooms = rooms; peers = map peer_of sessions; own = map own_of signals };
+abbrev pub tables_of : Rooms → List Clients → List Configuration → List Signal → HeldRows → Tables
+tables_of rooms clients configurations signals slots = record {
+  sizes = record { domains = length clients; rooms = rooms; peers = map peer_of configurations; own = map own_of signals };
   clients = clients;
-  sessions = sessions;
+  configurations = configurations;
   signals = signals;
   slots = slots;
 }
 
-same_peers : (e : Entry) (sessions : List Session) → map peer_of (map (session_with e) sessions) ≡ map peer_of sessions
+same_peers : (e : Entry) (configurations : List Configuration) → map peer_of (map (configuration_with e) configurations) ≡ map peer_of configurations
 same_peers e [] = refl
-same_peers e (s ∷ sessions) = ap (λ peers. s.peer ∷ peers) (same_peers e sessions)
+same_peers e (s ∷ configurations) = ap (λ peers. s.peer ∷ peers) (same_peers e configurations)
 
 same_own : (e : Entry) (signals : List Signal) → map own_of (map (signal_with e) signals) ≡ map own_of signals
 same_own e [] = refl
 same_own e (s ∷ signals) = ap (λ own. own_of s ∷ own) (same_own e signals)
 
-abbrev with_sizes : Sizes → List Clients → List Session → List Signal → HeldRows → Tables
-with_sizes sizes clients sessions signals slots =
-    record { sizes = sizes; clients = clients; sessions = sessions; signals = signals; slots = slots }
+abbrev with_sizes : Sizes → List Clients → List Configuration → List Signal → HeldRows → Tables
+with_sizes sizes clients configurations signals slots =
+    record { sizes = sizes; clients = clients; configurations = configurations; signals = signals; slots = slots }
 
 abbrev sizes_by : ℕ → Rooms → List ℕ → List (ℕ × ℕ) → Sizes
 sizes_by domains rooms peers own = record { domains = domains; rooms = rooms; peers = peers; own = own }
 
-pub fields_with : (rooms : Rooms) (clients after : List Clients) (sessions then : List Session) (signals since : List Signal) (slots now : HeldRows) (x : Filed)
-    → after ≡ update (clients_with x.entry.peer x.entry.cuid x.entry.change) x.entry.domain clients → then ≡ map (session_with x.entry) sessions
+pub fields_with : (rooms : Rooms) (clients after : List Clients) (configurations then : List Configuration) (signals since : List Signal) (slots now : HeldRows) (x : Filed)
+    → after ≡ update (clients_with x.entry.peer x.entry.cuid x.entry.change) x.entry.domain clients → then ≡ map (configuration_with x.entry) configurations
     → since ≡ map (signal_with x.entry) signals → now ≡ rows_more x slots
-    → tables_of rooms after then since now ≡ tables_with x (tables_of rooms clients sessions signals slots)
-fields_with rooms clients after sessions then signals since slots now x changed configured told filed =
+    → tables_of rooms after then since now ≡ tables_with x (tables_of rooms clients configurations signals slots)
+fields_with rooms clients after configurations then signals since slots now x changed configured told filed =
     let e = x.entry in
-    let more = map (session_with e) sessions in
+    let more = map (configuration_with e) configurations in
     let later = map (signal_with e) signals in
     let others = update (clients_with e.peer e.cuid e.change) e.domain clients in
     ap (λ cs. tables_of rooms cs then since now) changed
@@ -562,9 +562,9 @@ fields_with rooms clients after sessions then signals since slots now x changed 
     ∙ ap
     (λ n. with_sizes (sizes_by n rooms (map peer_of more) (map own_of later)) others more later (rows_more x slots))
     (length_updated (clients_with e.peer e.cuid e.change) e.domain clients)
-    ∙ ap (λ peers. with_sizes (sizes_by (length clients) rooms peers (map own_of later)) others more later (rows_more x slots)) (same_peers e sessions)
+    ∙ ap (λ peers. with_sizes (sizes_by (length clients) rooms peers (map own_of later)) others more later (rows_more x slots)) (same_peers e configurations)
     ∙ ap
-    (λ own. with_sizes (sizes_by (length clients) rooms (map peer_of sessions) own) others more later (rows_more x slots))
+    (λ own. with_sizes (sizes_by (length clients) rooms (map peer_of configurations) own) others more later (rows_more x slots))
     (same_own e signals)
 
 -- ---- the empty history
@@ -573,13 +573,13 @@ get_replicated zero i x y is = absurd (none-some y is)
 get_replicated (suc n) zero x y is = sym (same_Some x y is)
 get_replicated (suc n) (suc i) x y is = get_replicated n i x y is
 
-no_peers : (rows : List PeerRow) → map peer_of (map no_session rows) ≡ map (λ (row : PeerRow). row.peer) rows
+no_peers : (rows : List PeerRow) → map peer_of (map no_configuration rows) ≡ map (λ (row : PeerRow). row.peer) rows
 no_peers [] = refl
 no_peers (row ∷ rows) = ap (λ peers. row.peer ∷ peers) (no_peers rows)
 
-sessions_at_first : (rows : List PeerRow) → map no_session rows ≡ map (session_of []) (map peer_of (map no_session rows))
-sessions_at_first [] = refl
-sessions_at_first (row ∷ rows) = ap (λ sessions. no_session row ∷ sessions) (sessions_at_first rows)
+configurations_at_first : (rows : List PeerRow) → map no_configuration rows ≡ map (configuration_of []) (map peer_of (map no_configuration rows))
+configurations_at_first [] = refl
+configurations_at_first (row ∷ rows) = ap (λ configurations. no_configuration row ∷ configurations) (configurations_at_first rows)
 
 no_own : (own : List (ℕ × ℕ)) → map own_of (map no_loss own) ≡ own
 no_own [] = refl
@@ -590,33 +590,33 @@ signals_at_first [] = refl
 signals_at_first (o ∷ own) = ap (λ signals. no_loss o ∷ signals) (signals_at_first own)
 
 pub at_first : (rooms : Rooms) (count : ℕ) (rows : List PeerRow) (own : List (ℕ × ℕ)) (slots : HeldRows)
-    → Have (tables_of rooms (replicate count (no_clients rooms)) (map no_session rows) (map no_loss own) slots) []
+    → Have (tables_of rooms (replicate count (no_clients rooms)) (map no_configuration rows) (map no_loss own) slots) []
 at_first rooms count rows own slots = record {
   domains = refl;
   clients = λ domain clients some. get_replicated count domain (no_clients rooms) clients some;
-  sessions = sessions_at_first rows;
+  configurations = configurations_at_first rows;
   signals = signals_at_first own;
   owned = refl;
   known = refl;
 }
 
-pub represents_first : (rooms : Rooms) (count : ℕ) (rows : List PeerRow) (own : List (ℕ × ℕ)) (clients : List Clients) (sessions : List Session) (signals : List Signal) (slots : HeldRows)
-    → clients ≡ replicate count (no_clients rooms) → sessions ≡ map no_session rows → signals ≡ map no_loss own
-    → Represents (tables_of rooms clients sessions signals slots) []
-represents_first rooms count rows own clients sessions signals slots empty none heard =
-    subst (λ cs. Have (tables_of rooms cs sessions signals slots) []) (sym empty)
+pub represents_first : (rooms : Rooms) (count : ℕ) (rows : List PeerRow) (own : List (ℕ × ℕ)) (clients : List Clients) (configurations : List Configuration) (signals : List Signal) (slots : HeldRows)
+    → clients ≡ replicate count (no_clients rooms) → configurations ≡ map no_configuration rows → signals ≡ map no_loss own
+    → Represents (tables_of rooms clients configurations signals slots) []
+represents_first rooms count rows own clients configurations signals slots empty none heard =
+    subst (λ cs. Have (tables_of rooms cs configurations signals slots) []) (sym empty)
     (subst (λ ss. Have (tables_of rooms (replicate count (no_clients rooms)) ss signals slots) []) (sym none)
-    (subst (λ ls. Have (tables_of rooms (replicate count (no_clients rooms)) (map no_session rows) ls slots) []) (sym heard) (at_first rooms count rows own slots)))
+    (subst (λ ls. Have (tables_of rooms (replicate count (no_clients rooms)) (map no_configuration rows) ls slots) []) (sym heard) (at_first rooms count rows own slots)))
 
-pub sizes_first : (settings : SettingsValue) (rooms : Rooms) (count : ℕ) (clients : List Clients) (sessions : List Session) (signals : List Signal) (slots : HeldRows)
+pub sizes_first : (settings : SettingsValue) (rooms : Rooms) (count : ℕ) (clients : List Clients) (configurations : List Configuration) (signals : List Signal) (slots : HeldRows)
     → rooms ≡ rooms_of settings.limits → count ≡ length settings.domains
-    → clients ≡ replicate count (no_clients rooms) → sessions ≡ map no_session settings.peers → signals ≡ map no_loss (flat_map loser_of settings.peers)
-    → (tables_of rooms clients sessions signals slots).sizes ≡ sizes_of settings
-sizes_first settings rooms count clients sessions signals slots limits number empty none heard =
+    → clients ≡ replicate count (no_clients rooms) → configurations ≡ map no_configuration settings.peers → signals ≡ map no_loss (flat_map loser_of settings.peers)
+    → (tables_of rooms clients configurations signals slots).sizes ≡ sizes_of settings
+sizes_first settings rooms count clients configurations signals slots limits number empty none heard =
     let n = length settings.domains in
     let peers = map (λ (row : PeerRow). row.peer) settings.peers in
-    ap (λ cs. sizes_by (length cs) rooms (map peer_of sessions) (map own_of signals)) empty
-    ∙ ap (λ k. sizes_by k rooms (map peer_of sessions) (map own_of signals)) (length-replicate count (no_clients rooms) ∙ number)
+    ap (λ cs. sizes_by (length cs) rooms (map peer_of configurations) (map own_of signals)) empty
+    ∙ ap (λ k. sizes_by k rooms (map peer_of configurations) (map own_of signals)) (length-replicate count (no_clients rooms) ∙ number)
     ∙ ap (λ ss. sizes_by n rooms (map peer_of ss) (map own_of signals)) none
     ∙ ap (λ ps. sizes_by n rooms ps (map own_of signals)) (no_peers settings.peers)
     ∙ ap (λ ls. sizes_by n rooms peers (map own_of ls)) heard
@@ -644,7 +644,7 @@ one_value a b entries sizes first second = record {
       first.clients i x in_a
       ∙ ap (λ (s : Sizes). clients_of s.rooms i (held entries)) sizes
       ∙ sym (second.clients i y in_b));
-  sessions = first.sessions ∙ ap (λ (s : Sizes). map (session_of (held entries)) s.peers) sizes ∙ sym second.sessions;
+  configurations = first.configurations ∙ ap (λ (s : Sizes). map (configuration_of (held entries)) s.peers) sizes ∙ sym second.configurations;
   signals = first.signals ∙ ap (λ (s : Sizes). map (signal_of (held entries)) s.own) sizes ∙ sym second.signals;
 }
 
@@ -655,7 +655,7 @@ same_represents a b entries same have = record {
   clients = λ domain clients some.
       have.clients domain clients (ap (λ cs. slice_get cs domain) (sym same.clients) ∙ some)
       ∙ ap (λ (s : Sizes). clients_of s.rooms domain (held entries)) (sym same.sizes);
-  sessions = same.sessions ∙ have.sessions ∙ ap (λ (s : Sizes). map (session_of (held entries)) s.peers) (sym same.sizes);
+  configurations = same.configurations ∙ have.configurations ∙ ap (λ (s : Sizes). map (configuration_of (held entries)) s.peers) (sym same.sizes);
   signals = same.signals ∙ have.signals ∙ ap (λ (s : Sizes). map (signal_of (held entries)) s.own) (sym same.sizes);
   owned = have.owned;
   known = subst (λ s. list_all (is_known s) (held entries) ≡ true) (sym same.sizes) have.known;

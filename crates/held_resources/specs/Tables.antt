@@ -21,7 +21,7 @@ use Rattle.dots_laws.specs.Tables.{Client, client_of}
 use Rattle.held_resources.specs.declared.kind.RoomKind.{RoomKind}
 use Rattle.held_resources.specs.declared.kind.RoomKind.TheVariants as kind
 use Rattle.held_resources.specs.declared.rooms.Rooms.{Rooms}
-use Rattle.held_resources.specs.declared.sessions.Session.{Session}
+use Rattle.held_resources.specs.declared.configurations.Configuration.{Configuration}
 use Rattle.held_resources.specs.declared.signals.Signal.{Signal}
 use Rattle.held_resources.specs.Rows.{HeldRows, rows_more, rows_moved}
 use Rattle.dots_laws.specs.Held.{alias_of, aliases_of, acls_of, config_of}
@@ -153,18 +153,18 @@ configured change.ClearConfig before = None
 configured _ before = before
 
 -- what an entry makes of the session of a peer
-abbrev pub session_with : Entry → Session → Session
-session_with e session =
-    record { peer = session.peer; config = if e.peer == session.peer then configured e.change session.config else session.config }
+abbrev pub configuration_with : Entry → Configuration → Configuration
+configuration_with e configuration =
+    record { peer = configuration.peer; config = if e.peer == configuration.peer then configured e.change configuration.config else configuration.config }
 
-abbrev pub no_session : PeerRow → Session
-no_session row = record { peer = row.peer; config = None }
+abbrev pub no_configuration : PeerRow → Configuration
+no_configuration row = record { peer = row.peer; config = None }
 
-abbrev pub peer_of : Session → ℕ
-peer_of session = session.peer
+abbrev pub peer_of : Configuration → ℕ
+peer_of configuration = configuration.peer
 
-abbrev pub session_of : List Entry → ℕ → Session
-session_of held_now peer = record { peer = peer; config = config_of peer held_now }
+abbrev pub configuration_of : List Entry → ℕ → Configuration
+configuration_of held_now peer = record { peer = peer; config = config_of peer held_now }
 
 -- whether a signal is lost after a change of its peer
 abbrev pub lost_after : Change → Bool → Bool
@@ -196,7 +196,7 @@ pub record Tables : Type 0 where
   pub sizes : Sizes
   -- by the number of the domain
   pub clients : List Clients
-  pub sessions : List Session
+  pub configurations : List Configuration
   pub signals : List Signal
   -- of each thing that is held, the slot of a journal in which the entry stands that wrote it
   pub slots : HeldRows
@@ -211,7 +211,7 @@ abbrev pub tables_with : Filed → Tables → Tables
 tables_with x tables = record {
   sizes = tables.sizes;
   clients = update (clients_with x.entry.peer x.entry.cuid x.entry.change) x.entry.domain tables.clients;
-  sessions = map (session_with x.entry) tables.sessions;
+  configurations = map (configuration_with x.entry) tables.configurations;
   signals = map (signal_with x.entry) tables.signals;
   slots = rows_more x tables.slots;
 }
@@ -221,7 +221,7 @@ abbrev pub tables_renumbered : List ℕ → Tables → Tables
 tables_renumbered keep tables = record {
   sizes = tables.sizes;
   clients = tables.clients;
-  sessions = tables.sessions;
+  configurations = tables.configurations;
   signals = tables.signals;
   slots = rows_moved keep tables.slots;
 }
@@ -230,7 +230,7 @@ tables_renumbered keep tables = record {
 pub record SameButSlots (a b : Tables) : Type 0 where
   pub sizes : a.sizes ≡ b.sizes
   pub clients : a.clients ≡ b.clients
-  pub sessions : a.sessions ≡ b.sessions
+  pub configurations : a.configurations ≡ b.configurations
   pub signals : a.signals ≡ b.signals
 
 -- the entry is of one of the domains, or it configures the session of one of the peers
@@ -248,7 +248,7 @@ is_known sizes e = is_placed sizes e && (not (is_loss e.change) || list_any (los
 pub record Have (tables : Tables) (held_now : List Entry) : Type 0 where
   pub domains : length tables.clients ≡ tables.sizes.domains
   pub clients : (domain : ℕ) (clients : Clients) → slice_get tables.clients domain ≡ Some clients → clients ≡ clients_of tables.sizes.rooms domain held_now
-  pub sessions : tables.sessions ≡ map (session_of held_now) tables.sizes.peers
+  pub configurations : tables.configurations ≡ map (configuration_of held_now) tables.sizes.peers
   pub signals : tables.signals ≡ map (signal_of held_now) tables.sizes.own
   pub owned : list_all (has_client held_now) held_now ≡ true
   pub known : list_all (is_known tables.sizes) held_now ≡ true
@@ -292,9 +292,9 @@ most_of rooms kind.Acl = rooms.acls
 abbrev pub config_now : ℕ × Bor Config → ℕ × Config
 config_now (sid, config) = (sid, config.now)
 
-abbrev pub config_in : Option Session → Option (ℕ × Config)
+abbrev pub config_in : Option Configuration → Option (ℕ × Config)
 config_in None = None
-config_in (Some session) = session.config
+config_in (Some configuration) = configuration.config
 
 -- the signal of this peer is lost in this domain
 abbrev pub lost_in : Tables → ℕ → ℕ → Bool

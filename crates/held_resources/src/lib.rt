@@ -24,7 +24,7 @@ mod resources;
 mod rooms;
 mod row;
 mod rows;
-mod sessions;
+mod configurations;
 mod signals;
 mod size;
 

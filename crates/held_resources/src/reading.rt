@@ -5,7 +5,7 @@ ghost use Rattle.dots_laws.specs.Held.{alias_named, acl_named};
 ghost use Rattle.held_resources.specs.Tables.{registrant_in, aliases_in, acls_in, config_in, config_now};
 
 use crate::registered_client::RegisteredClient;
-use crate::sessions::Session;
+use crate::configurations::Configuration;
 use acl_lists::{Acl, Alias};
 use dots_history::Config;
 use dots_lists::Name;
@@ -67,10 +67,10 @@ pub(crate) fn acl_named<'a>(acls: &'a [Acl], name: &Name) -> Option<&'a Acl>
 }
 
 /// What a session has.
-pub(crate) fn config_in(session: Option<&Session>) -> Option<(u32, &Config)>
-    ensures { option_map config_now result ≡ config_in (option_copied session.entry) }
+pub(crate) fn config_in(configuration: Option<&Configuration>) -> Option<(u32, &Config)>
+    ensures { option_map config_now result ≡ config_in (option_copied configuration.entry) }
 {
-    match &session?.config {
+    match &configuration?.config {
         Some((sid, config)) => Some((*sid, config)),
         None => None,
     }

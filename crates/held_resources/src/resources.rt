@@ -24,7 +24,7 @@ use crate::reading::{
 use crate::registered_client::RegisteredClient;
 use crate::rooms::Rooms;
 use crate::rows::HeldSlots;
-use crate::sessions::{Session, configure, no_sessions};
+use crate::configurations::{Configuration, configure, no_configurations};
 use crate::signals::{Signal, has_lost, has_signal, is_lost, no_losses, note};
 use crate::size::most_held;
 use acl_lists::{Acl, Alias};
@@ -42,7 +42,7 @@ pub struct HeldResources {
     /// By the number of the domain.
     domains: Vec<DomainClients>,
     /// One for each peer of the settings.
-    sessions: Vec<Session>,
+    configurations: Vec<Configuration>,
     /// One for each client peer.
     signals: Vec<Signal>,
     slots: HeldSlots,
@@ -58,11 +58,11 @@ impl Model for HeldResources {
       sizes = record {
         domains = length things.domains.items;
         rooms = things.rooms;
-        peers = map peer_of things.sessions.items;
+        peers = map peer_of things.configurations.items;
         own = map own_of things.signals.items;
       };
       clients = things.domains.items;
-      sessions = things.sessions.items;
+      configurations = things.configurations.items;
       signals = things.signals.items;
       slots = things.slots;
     } };
@@ -77,13 +77,13 @@ impl HeldResources {
     {
         let rooms = rooms_of(settings.limits());
         let domains = no_clients(alloc, settings.domains(), rooms)?;
-        let sessions = no_sessions(alloc, settings.peers())?;
+        let configurations = no_configurations(alloc, settings.peers())?;
         let signals = no_losses(alloc, settings.peers())?;
         let slots = HeldSlots::new(alloc, most_held(settings) as usize)?;
         Ok(HeldResources {
             rooms,
             domains,
-            sessions,
+            configurations,
             signals,
             slots,
         })
@@ -126,7 +126,7 @@ impl HeldResources {
         ensures { self.new ≡ tables_with (record { entry = entry; slot = slot }) self.old }
     {
         self.slots.take(&entry, slot);
-        configure(&mut self.sessions, &entry);
+        configure(&mut self.configurations, &entry);
         note(&mut self.signals, &entry);
         change_clients(&mut self.domains, entry);
     }
@@ -195,13 +195,13 @@ impl HeldResources {
     pub fn config(&self, peer: u32) -> Option<(u32, &Config)>
         ensures { (entries : List Entry) → Represents self.now entries → option_map config_now result ≡ config_of peer (held entries) }
     {
-        config_in(self.session(peer))
+        config_in(self.configuration(peer))
     }
 
-    fn session(&self, peer: u32) -> Option<&Session>
-        ensures { option_copied result ≡ find (λ session. peer == session.peer) self.now.sessions }
+    fn configuration(&self, peer: u32) -> Option<&Configuration>
+        ensures { option_copied result ≡ find (λ configuration. peer == configuration.peer) self.now.configurations }
     {
-        self.sessions.iter().find(|session| peer == session.peer)
+        self.configurations.iter().find(|configuration| peer == configuration.peer)
     }
 
     /// Whether the signal of this peer is lost, in whichever domain it is a client of.
@@ -287,7 +287,7 @@ impl HeldResources {
         ensures { result ≡ is_placed self.now.sizes entry.now }
     {
         if is_configuration(&entry.change) {
-            return has_peer(self.sessions.as_slice(), entry.peer);
+            return has_peer(self.configurations.as_slice(), entry.peer);
         }
         usize::from(entry.domain) < self.domains.len()
     }
@@ -358,10 +358,10 @@ fn registers_rightly(change: &Change, registered: bool) -> bool
     }
 }
 
-fn has_peer(sessions: &[Session], peer: u32) -> bool
-    ensures { result ≡ list_any (λ session. peer == session.peer) sessions.now }
+fn has_peer(configurations: &[Configuration], peer: u32) -> bool
+    ensures { result ≡ list_any (λ configuration. peer == configuration.peer) configurations.now }
 {
-    sessions.iter().any(|session| peer == session.peer)
+    configurations.iter().any(|configuration| peer == configuration.peer)
 }
 
 fn most_of(rooms: Rooms, kind: RoomKind) -> usize

@@ -71,21 +71,21 @@ abbrev pub too_long : List ℕ
 too_long = codes "fault 6: the host file has more than 65536 bytes\n"
 
 -- What is to be said of its lines and of the journal, as that was found at some second.
-abbrev pub TellsChecked : SettingsValue → List ℕ → Checked → Type 0
-TellsChecked settings file told = (now : ℕ) × (state : JournalState) × ChecksHost settings now state file told
+abbrev pub ReportsChecked : SettingsValue → List ℕ → Checked → Type 0
+ReportsChecked settings file told = (now : ℕ) × (state : JournalState) × ChecksHost settings now state file told
 
 -- Where neither file has a fault, that; or what was found in the journal, of which the bytes of the two files say nothing.
-abbrev pub Tells : Task → SettingsValue → List ℕ → Checked → Type 0
-Tells task.Check settings file told = TellsChecked settings file told
-Tells task.List settings file told = ⊤
-Tells task.Script settings file told = ⊤
+abbrev pub ReportsTask : Task → SettingsValue → List ℕ → Checked → Type 0
+ReportsTask task.Check settings file told = ReportsChecked settings file told
+ReportsTask task.List settings file told = ⊤
+ReportsTask task.Script settings file told = ⊤
 
 -- What is told of the host file: that it is too long, or the report of its first fault, or what there is to be told.
-abbrev pub TellsHost : Task → SettingsValue → List ℕ → Checked → Type 0
-TellsHost asked settings file told =
+abbrev pub ReportsHost : Task → SettingsValue → List ℕ → Checked → Type 0
+ReportsHost asked settings file told =
     ((max_host_file < length file) × (told ≡ checked.AtFault too_long))
     ⊎ (((text : List ℕ) × (told ≡ checked.AtFault text) × IsAtFault file text)
-    ⊎ ((length file ≤ max_host_file) × ((said : List LineValue) × Stand (lines_of file) said) × Tells asked settings file told))
+    ⊎ ((length file ≤ max_host_file) × ((said : List LineValue) × Stand (lines_of file) said) × ReportsTask asked settings file told))
 
 -- what is read of a file: one byte more than it may have, so that it is seen to be too long
 abbrev pub front_of : List ℕ → List ℕ
@@ -95,4 +95,4 @@ front_of file = take 65537 file
 abbrev pub ChecksFiles : Task → List ℕ → List ℕ → Checked → Type 0
 ChecksFiles asked file host told =
     ((why : SettingsFault) × SettingsFail file why × ChecksSettings file told)
-    ⊎ ((settings : SettingsValue) × SettingsAre file settings × TellsHost asked settings host told)
+    ⊎ ((settings : SettingsValue) × SettingsAre file settings × ReportsHost asked settings host told)

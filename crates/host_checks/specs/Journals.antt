@@ -4,7 +4,7 @@ use Rattle.dots_settings.specs.Settings.{SettingsValue}
 use Rattle.dots_history.specs.declared.entry.Entry.{Entry}
 use Rattle.slot_journal.specs.declared.fault.JournalFault.{JournalFault}
 use Rattle.slot_journal.specs.declared.fault.JournalFault.TheVariants as fault
-use Rattle.slot_journal.specs.DiskEntries.{Holds}
+use Rattle.slot_journal.specs.DiskEntries.{HasEntries}
 use Rattle.slot_journal.specs.Refused.{Refuses}
 use Rattle.slot_journal.specs.Sizes.{slots_of}
 use Rattle.file_checks.specs.Summary.{count_line}
@@ -52,8 +52,8 @@ amounts_text used slots last = entries_count used ++ slots_count slots ++ last_l
 unfoldable pub restart_line : ℕ → List ℕ
 restart_line used = count_line (codes "seconds of a restart at most") (restart_seconds used)
 
-unfoldable pub held_text : ℕ → ℕ → ℕ → Option ℕ → List ℕ
-held_text now used slots last = amounts_text used slots last ++ restart_line used ++ ahead_line now last
+unfoldable pub filled_text : ℕ → ℕ → ℕ → Option ℕ → List ℕ
+filled_text now used slots last = amounts_text used slots last ++ restart_line used ++ ahead_line now last
 
 -- with what status a server ends for the fault
 unfoldable pub refused_text : JournalFault → List ℕ
@@ -69,7 +69,7 @@ journal_text now state.Blank = codes "journal: empty\n"
 journal_text now state.NotOne = codes "fault 6: at the path of the journal stands what is no journal\n"
 journal_text now state.Unreadable = codes "fault 6: the journal can't be read\n"
 journal_text now (state.Refused why) = refused_text why
-journal_text now (state.Holds used slots last) = held_text now used slots last
+journal_text now (state.Filled used slots last) = filled_text now used slots last
 
 -- a server starts with it
 abbrev pub is_fit : ℕ → JournalState → Bool
@@ -78,11 +78,11 @@ is_fit now state.Blank = true
 is_fit now state.NotOne = false
 is_fit now state.Unreadable = false
 is_fit now (state.Refused why) = false
-is_fit now (state.Holds used slots last) = if is_ahead now last then false else true
+is_fit now (state.Filled used slots last) = if is_ahead now last then false else true
 
 -- What was found on a disk of this size that seems so: the entries that it holds, or why a server refuses it.
 abbrev pub IsFound : SettingsValue → ℕ → (ℕ → ℕ) → JournalState → Type 0
-IsFound settings extent seen (state.Holds used slots last) =
-    (entries : List Entry) × Holds settings seen entries × (used ≡ length entries) × (slots ≡ slots_of settings) × (last ≡ last_of entries)
+IsFound settings extent seen (state.Filled used slots last) =
+    (entries : List Entry) × HasEntries settings seen entries × (used ≡ length entries) × (slots ≡ slots_of settings) × (last ≡ last_of entries)
 IsFound settings extent seen (state.Refused why) = Refuses settings extent seen why
 IsFound settings extent seen _ = ⊤

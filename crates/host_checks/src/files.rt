@@ -8,7 +8,7 @@ ghost use Rattle.file_checks.specs.Checks.{ChecksSettings};
 ghost use Rattle.host_file.specs.HostLine.{line_value};
 ghost use Rattle.host_file.specs.HostFile.{Stand};
 ghost use Rattle.file_checks.specs.declared.checked.Checked.TheVariants as checked;
-ghost use Rattle.host_checks.specs.HostChecks.{ChecksFiles, TellsChecked, TellsHost, front_of, too_long};
+ghost use Rattle.host_checks.specs.HostChecks.{ChecksFiles, ReportsChecked, ReportsHost, front_of, too_long};
 
 use crate::checking::check_host;
 use crate::host_fault::host_fault_report;
@@ -95,7 +95,7 @@ fn check_beside<R: Files<File = File> + Clock>(
     settings: &Settings,
     text: &[u8],
 ) -> Result<Checked, NoMemory>
-    ensures { IfOk result (TellsHost task settings.now text.now) }
+    ensures { IfOk result (ReportsHost task settings.now text.now) }
 {
     if text.len() > MAX_FILE {
         return too_long(alloc);
@@ -130,7 +130,7 @@ fn check_said<R: Files<File = File> + Clock>(
     text: &[u8],
 ) -> Result<Checked, NoMemory>
     requires { Stand (lines_of text.now) (map line_value said.now) }
-    ensures { IfOk result (TellsChecked settings.now text.now) }
+    ensures { IfOk result (ReportsChecked settings.now text.now) }
 {
     let state = find_journal(alloc, rt, settings, said)?;
     let now = match rt.since_1970() {

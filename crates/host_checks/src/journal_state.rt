@@ -1,7 +1,7 @@
 //! What is said of a journal.
 
 ghost use Rattle.std.specs.Prelude.{◌≡◌, ◌++◌, OnOk};
-ghost use Rattle.host_checks.specs.Journals.{is_ahead, last_line, restart_seconds, entries_count, slots_count, restart_line, amounts_text, ahead_line, held_text, refused_text, journal_text, is_fit};
+ghost use Rattle.host_checks.specs.Journals.{is_ahead, last_line, restart_seconds, entries_count, slots_count, restart_line, amounts_text, ahead_line, filled_text, refused_text, journal_text, is_fit};
 
 use crate::entry_line::add_words;
 use crate::findings::add_numbered;
@@ -29,7 +29,7 @@ pub enum JournalState {
     /// A server refuses it for this fault.
     Refused(JournalFault),
     /// It is one of the settings.
-    Holds {
+    Filled {
         /// How many entries it holds.
         used: u64,
         /// How many it may hold before a compaction.
@@ -48,7 +48,7 @@ impl JournalState {
             JournalState::Missing | JournalState::Blank => true,
             JournalState::NotOne | JournalState::Unreadable => false,
             JournalState::Refused(_) => false,
-            JournalState::Holds { last, .. } => !is_ahead(now, last),
+            JournalState::Filled { last, .. } => !is_ahead(now, last),
         }
     }
 }
@@ -67,7 +67,7 @@ pub fn add_journal(text: &mut Vec<u8>, now: u64, state: JournalState) -> Result<
         ),
         JournalState::Unreadable => add_words(text, b"fault 6: the journal can't be read\n"),
         JournalState::Refused(why) => add_refused(text, why),
-        JournalState::Holds { used, slots, last } => add_held(text, now, used, slots, last),
+        JournalState::Filled { used, slots, last } => add_filled(text, now, used, slots, last),
     }
 }
 
@@ -96,15 +96,15 @@ pub fn add_refused(text: &mut Vec<u8>, why: JournalFault) -> Result<(), NoMemory
     }
 }
 
-#[tactic(auto, unfolding(crate::specs::Journals::held_text))]
-fn add_held(
+#[tactic(auto, unfolding(crate::specs::Journals::filled_text))]
+fn add_filled(
     text: &mut Vec<u8>,
     now: u64,
     used: u64,
     slots: u32,
     last: Option<u64>,
 ) -> Result<(), NoMemory>
-    ensures { OnOk result (text.new.items ≡ text.old.items ++ held_text now used slots last) }
+    ensures { OnOk result (text.new.items ≡ text.old.items ++ filled_text now used slots last) }
 {
     add_amounts(text, used, slots, last)?;
     add_restart(text, used)?;

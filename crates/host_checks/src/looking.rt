@@ -22,7 +22,7 @@ pub fn look_at<D: Disk>(
     ensures { IfOk result (λ state. (seen : ℕ → ℕ) → Sees (D.media disk.old) seen → IsFound settings.now (D.extent disk.old) seen state) }
 {
     match Journal::recover(alloc, disk, settings) {
-        Ok((journal, entries)) => Ok(JournalState::Holds {
+        Ok((journal, entries)) => Ok(JournalState::Filled {
             used: entries.items().len() as u64,
             slots: journal.slots(),
             last: last_of(entries.items()),

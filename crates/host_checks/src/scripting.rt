@@ -3,7 +3,7 @@
 ghost use Rattle.std.specs.Prelude.{◌≡◌, ◌+◌, ◌≤◌, ◌<◌, ◌^◌, ℕ, length, IfOk};
 ghost use Rattle.slot_store.specs.Gates.{Sees};
 ghost use Rattle.dots_settings.specs.Settings.{SettingsValue};
-ghost use Rattle.host_checks.specs.Scripts.{TellsScript};
+ghost use Rattle.host_checks.specs.Scripts.{ReportsScript};
 
 use crate::journal_state::add_refused;
 use dots_disk::Disk;
@@ -32,7 +32,7 @@ pub fn script_journal<D: Disk>(
     now: u64,
 ) -> Result<Checked, NoMemory>
     requires early { now < 2 ^ 48 }
-    ensures told { IfOk result (λ told. (seen : ℕ → ℕ) → Sees (D.media disk.old) seen → TellsScript settings.now now seen told) }
+    ensures told { IfOk result (λ told. (seen : ℕ → ℕ) → Sees (D.media disk.old) seen → ReportsScript settings.now now seen told) }
     ensures extent { D.extent disk.new ≡ D.extent disk.old }
 {
     match script_at(alloc, disk, settings, now) {
@@ -44,7 +44,7 @@ pub fn script_journal<D: Disk>(
 
 /// Why a journal is refused.
 fn refused(alloc: Global, fault: JournalFault) -> Result<Checked, NoMemory>
-    ensures { IfOk result (λ told. (settings : SettingsValue) (now : ℕ) (seen : ℕ → ℕ) → TellsScript settings now seen told) }
+    ensures { IfOk result (λ told. (settings : SettingsValue) (now : ℕ) (seen : ℕ → ℕ) → ReportsScript settings now seen told) }
 {
     let mut text = Vec::new(alloc);
     add_refused(&mut text, fault)?;

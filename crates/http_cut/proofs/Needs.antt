@@ -11,34 +11,34 @@ use Rattle.http_cut.specs.declared.fault.HttpFault.{HttpFault}
 use Rattle.http_cut.specs.declared.place.Place.{Place}
 use Rattle.http_cut.specs.declared.place.Place.TheVariants.{Blank}
 use Rattle.http_cut.specs.Fields.{framing}
-use Rattle.http_cut.specs.Requests.{Head, request_of, takes, waits, IsCut, by_framing, outcome_behind, head_of}
+use Rattle.http_cut.specs.Requests.{Head, request_of, takes, waits, IsCut, by_framing, cut_value_behind, head_of}
 use Rattle.http_cut.specs.SpanValues.{fields_at}
 use Rattle.http_cut.specs.Places.{place_from, WaitsBelow, IsKnown}
 use Rattle.http_cut.proofs.Places.{from_append}
 use Rattle.http_cut.proofs.Streams.{begins_append}
 use Rattle.http_cut.proofs.Windows.{begins, head_is}
 
-short_body : (head : Head) (rest : List ℕ) (n : ℕ) → framing head.fields ≡ Ok n → length rest < n → waits ≡ outcome_behind head rest
-unfolding outcome_behind
+short_body : (head : Head) (rest : List ℕ) (n : ℕ) → framing head.fields ≡ Ok n → length rest < n → waits ≡ cut_value_behind head rest
+unfolding cut_value_behind
 short_body head rest n framed short =
     sym (ap (λ (r : Result ℕ HttpFault). by_framing head rest r) framed ∙ ap (λ (b : Bool). if b then takes (request_of head n rest) else waits) (lt-leb n (length rest) short))
 
-pub waits_for_body : (held window : List ℕ) (spans : List HeaderSpan) (r : RequestSpans) (n : ℕ) → window ≡ take 8192 held → IsRequestOf window spans r → r.len ≤ 8192
-    → framing (fields_at window (take r.headers spans)) ≡ Ok n → WaitsBelow held (r.len + n)
-waits_for_body held window spans r n is x fits framed more short =
+pub waits_for_body : (buffered window : List ℕ) (spans : List HeaderSpan) (r : RequestSpans) (n : ℕ) → window ≡ take 8192 buffered → IsRequestOf window spans r → r.len ≤ 8192
+    → framing (fields_at window (take r.headers spans)) ≡ Ok n → WaitsBelow buffered (r.len + n)
+waits_for_body buffered window spans r n is x fits framed more short =
     let h = x.0 in
-    let rest = drop r.len held in
-    let begun = begins held h (drop r.len window) r.len (x.1.reads.0, sym is ∙ x.1.reads.1) x.1.len fits in
+    let rest = drop r.len buffered in
+    let begun = begins buffered h (drop r.len window) r.len (x.1.reads.0, sym is ∙ x.1.reads.1) x.1.len fits in
     let framed_so : framing (head_of h).fields ≡ Ok n = ap (λ (y : Head). framing y.fields) (sym (head_is window spans r h x.1)) ∙ framed in
-    let all : length held ≡ length (print_request h ++ rest) = ap (λ (y : List ℕ). length y) begun.reads.1 in
-    let lacks : length (rest ++ more) < n = omega (arith, all, length-append (print_request h) rest, length-append rest more, length-append held more, short, x.1.len) in
-    inl (h, rest ++ more, begins_append held h rest more begun, short_body (head_of h) (rest ++ more) n framed_so lacks)
+    let all : length buffered ≡ length (print_request h ++ rest) = ap (λ (y : List ℕ). length y) begun.reads.1 in
+    let lacks : length (rest ++ more) < n = omega (arith, all, length-append (print_request h) rest, length-append rest more, length-append buffered more, short, x.1.len) in
+    inl (h, rest ++ more, begins_append buffered h rest more begun, short_body (head_of h) (rest ++ more) n framed_so lacks)
 
-pub waits_for_nothing : (held : List ℕ) → WaitsBelow held 0
-waits_for_nothing held more short = absurd (omega (arith, short))
+pub waits_for_nothing : (buffered : List ℕ) → WaitsBelow buffered 0
+waits_for_nothing buffered more short = absurd (omega (arith, short))
 
-pub waits_now : (held : List ℕ) (n : ℕ) → WaitsBelow held n → length held < n → IsCut held waits
-waits_now held n below short = subst (λ (y : List ℕ). IsCut y waits) (append-nil held) (below [] (subst (λ (y : List ℕ). length y < n) (sym (append-nil held)) short))
+pub waits_now : (buffered : List ℕ) (n : ℕ) → WaitsBelow buffered n → length buffered < n → IsCut buffered waits
+waits_now buffered n below short = subst (λ (y : List ℕ). IsCut y waits) (append-nil buffered) (below [] (subst (λ (y : List ℕ). length y < n) (sym (append-nil buffered)) short))
 
 needed_still : (bytes more : List ℕ) (needed : Option ℕ) → IfSome needed (WaitsBelow bytes) → IfSome needed (WaitsBelow (bytes ++ more))
 needed_still bytes more None known = tt

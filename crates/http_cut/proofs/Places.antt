@@ -128,12 +128,12 @@ head_ends bytes h rest x =
 not_end : (p : Place) → is_end p ≡ false → p ≡ End → ⊥
 not_end p open_yet is = both_ways (is_end p) open_yet (ap is_end is)
 
-no_head_yet : (held : List ℕ) (p : Place) → p ≡ place_from Blank held → is_end p ≡ false → HasNoHead held
-no_head_yet held p is open_yet = λ h rest x. not_end p open_yet (is ∙ ends_behind held (head_ends held h rest x))
+no_head_yet : (buffered : List ℕ) (p : Place) → p ≡ place_from Blank buffered → is_end p ≡ false → HasNoHead buffered
+no_head_yet buffered p is open_yet = λ h rest x. not_end p open_yet (is ∙ ends_behind buffered (head_ends buffered h rest x))
 
-pub waits_yet : (held : List ℕ) (p : Place) → p ≡ place_from Blank held → is_end p ≡ false → length held < 8192 → IsCut held waits
-waits_yet held p is open_yet short =
-    inr (no_head_yet held p is open_yet, λ over. elim over [ inl long ↦ omega (arith, long, short) | inr line ↦ not_end p open_yet (is ∙ ends_behind held line) ])
+pub waits_yet : (buffered : List ℕ) (p : Place) → p ≡ place_from Blank buffered → is_end p ≡ false → length buffered < 8192 → IsCut buffered waits
+waits_yet buffered p is open_yet short =
+    inr (no_head_yet buffered p is open_yet, λ over. elim over [ inl long ↦ omega (arith, long, short) | inr line ↦ not_end p open_yet (is ∙ ends_behind buffered line) ])
 
-pub full_yet : (held : List ℕ) (p : Place) → p ≡ place_from Blank held → is_end p ≡ false → 8192 ≤ length held → IsCut held (refuses BadHead)
-full_yet held p is open_yet full = inr (no_head_yet held p is open_yet, (refl, inl (inl full)))
+pub full_yet : (buffered : List ℕ) (p : Place) → p ≡ place_from Blank buffered → is_end p ≡ false → 8192 ≤ length buffered → IsCut buffered (refuses BadHead)
+full_yet buffered p is open_yet full = inr (no_head_yet buffered p is open_yet, (refl, inl (inl full)))

@@ -12,7 +12,7 @@ use Rattle.http_cut.specs.declared.request.Cut as code
 use Rattle.http_cut.specs.declared.request.Cut.TheVariants as cuts
 use Rattle.http_cut.specs.Fields.{values_of, is_length, announced, body_length, framed, framing}
 use Rattle.http_cut.specs.declared.fault.HttpFault.TheVariants.{BadHead, BodyTooLong}
-use Rattle.http_cut.specs.Requests.{BeginsWith, HasNoHead, NeverHasHead, HasEmptyLine, IsOver, IsHeadless, Head, Request, request_of, Outcome, takes, waits, refuses, IsCut, by_framing, outcome_behind, head_of, outcome_of, request_value}
+use Rattle.http_cut.specs.Requests.{BeginsWith, HasNoHead, NeverHasHead, HasEmptyLine, IsOver, IsHeadless, Head, Request, request_of, CutValue, takes, waits, refuses, IsCut, by_framing, cut_value_behind, head_of, cut_value, request_value}
 use Rattle.http_cut.specs.declared.stream_end.StreamEnd.{StreamEnd}
 use Rattle.http_cut.specs.declared.stream_end.StreamEnd.TheVariants.{Waits, Closes, Refused}
 use Rattle.http_cut.specs.Streams.{IfRequest, IsFirst, ClosesLast, AreRequests, any_closes, HasEnd, IsStream, IsOpen}
@@ -22,13 +22,13 @@ use Rattle.http_cut.proofs.Windows.{some_head}
 pub begins_append : (bytes : List ℕ) (h : RequestHead) (rest more : List ℕ) → BeginsWith bytes h rest → BeginsWith (bytes ++ more) h (rest ++ more)
 begins_append bytes h rest more x = record { reads = ReadsRequest-append bytes h rest more x.reads; size = x.size }
 
-abbrev taken : Request → Outcome → Request
+abbrev taken : Request → CutValue → Request
 taken instead (takes request) = request
 taken instead waits = instead
 taken instead (refuses fault) = instead
 
 -- whether an outcome is a request, a wait or a refusal
-abbrev kind : Outcome → ℕ
+abbrev kind : CutValue → ℕ
 kind (takes request) = 0
 kind waits = 1
 kind (refuses fault) = 2
@@ -52,12 +52,12 @@ whole_by head rest request (Ok n) is e = elim (cases_Bool (nat_le n (length rest
   | inr short ↦ absurd (omega (arith, ap kind (e ∙ ap (λ b. if b then takes (request_of head n rest) else waits) short)))
 ]
 
-whole : (head : Head) (rest : List ℕ) (request : Request) → takes request ≡ outcome_behind head rest → Whole head rest request
-unfolding outcome_behind
+whole : (head : Head) (rest : List ℕ) (request : Request) → takes request ≡ cut_value_behind head rest → Whole head rest request
+unfolding cut_value_behind
 whole head rest request e = whole_by head rest request (framing head.fields) refl e
 
-taken_by : (head : Head) (rest : List ℕ) (n : ℕ) → framing head.fields ≡ Ok n → n ≤ length rest → takes (request_of head n rest) ≡ outcome_behind head rest
-unfolding outcome_behind
+taken_by : (head : Head) (rest : List ℕ) (n : ℕ) → framing head.fields ≡ Ok n → n ≤ length rest → takes (request_of head n rest) ≡ cut_value_behind head rest
+unfolding cut_value_behind
 taken_by head rest n framed fits =
     sym (ap (λ (r : Result ℕ HttpFault). by_framing head rest r) framed ∙ cond-true (nat_le n (length rest)) _ _ (le-leb n (length rest) fits))
 
@@ -109,7 +109,7 @@ requests_join bytes middle rest (r ∷ first) second goes_on x y =
 one_first : (bytes : List ℕ) (r s : Request) → IsFirst bytes r → IsFirst bytes s → r ≡ s
 one_first bytes r s x y =
     let same = request_unique bytes x.0 y.0 x.1 y.1 x.2.reads y.2.reads in
-    ap (taken r) (x.3 ∙ (λ i. outcome_behind (head_of (same.0 i)) (same.1 i)) ∙ sym y.3)
+    ap (taken r) (x.3 ∙ (λ i. cut_value_behind (head_of (same.0 i)) (same.1 i)) ∙ sym y.3)
 
 -- ---- what is refused stays refused
 
@@ -120,34 +120,34 @@ refused_by head rest other fault (Ok n) e = elim (cases_Bool (nat_le n (length r
   | inr short ↦ absurd (omega (arith, ap kind (e ∙ ap (λ b. if b then takes (request_of head n rest) else waits) short)))
 ]
 
-refused : (head : Head) (rest other : List ℕ) (fault : HttpFault) → refuses fault ≡ outcome_behind head rest → refuses fault ≡ outcome_behind head other
-unfolding outcome_behind
+refused : (head : Head) (rest other : List ℕ) (fault : HttpFault) → refuses fault ≡ cut_value_behind head rest → refuses fault ≡ cut_value_behind head other
+unfolding cut_value_behind
 refused head rest other fault e = refused_by head rest other fault (framing head.fields) e
 
 -- a head of more bytes that ends in the first of them
-shorter : (held more : List ℕ) (h : RequestHead) (rest : List ℕ) → BeginsWith (held ++ more) h rest → length (print_request h) ≤ length held → (behind : List ℕ) × BeginsWith held h behind
-shorter held more h rest x fits =
+shorter : (buffered more : List ℕ) (h : RequestHead) (rest : List ℕ) → BeginsWith (buffered ++ more) h rest → length (print_request h) ≤ length buffered → (behind : List ℕ) × BeginsWith buffered h behind
+shorter buffered more h rest x fits =
     let text = print_request h in
-    let k = length held - length text in
-    let size : length held ≡ length text + k = omega (arith, fits) in
-    let front : held ≡ text ++ take k rest = sym (take-append_seam held more) ∙ ap (λ (y : List ℕ). take (length held) y) x.reads.1 ∙ ap (λ (n : ℕ). take n (text ++ rest)) size ∙ take-append-add text rest k in
+    let k = length buffered - length text in
+    let size : length buffered ≡ length text + k = omega (arith, fits) in
+    let front : buffered ≡ text ++ take k rest = sym (take-append_seam buffered more) ∙ ap (λ (y : List ℕ). take (length buffered) y) x.reads.1 ∙ ap (λ (n : ℕ). take n (text ++ rest)) size ∙ take-append-add text rest k in
     (take k rest, record { reads = (x.reads.0, front); size = x.size })
 
-over_never : (held : List ℕ) → HasNoHead held → IsOver held → NeverHasHead held
-over_never held none (inl full) = λ more h rest x.
-    let short = shorter held more h rest x (omega (arith, x.size, full)) in
+over_never : (buffered : List ℕ) → HasNoHead buffered → IsOver buffered → NeverHasHead buffered
+over_never buffered none (inl full) = λ more h rest x.
+    let short = shorter buffered more h rest x (omega (arith, x.size, full)) in
     none h short.0 short.1
-over_never held none (inr line) = λ more h rest x. elim (cases_lt (length held) (length (print_request h))) [
-  | inr fits ↦ (let short = shorter held more h rest x fits in none h short.0 short.1)
-  | inl longer ↦ beyond held more h rest x line longer
+over_never buffered none (inr line) = λ more h rest x. elim (cases_lt (length buffered) (length (print_request h))) [
+  | inr fits ↦ (let short = shorter buffered more h rest x fits in none h short.0 short.1)
+  | inl longer ↦ beyond buffered more h rest x line longer
 ]
   where
-    beyond : (held more : List ℕ) (h : RequestHead) (rest : List ℕ) → BeginsWith (held ++ more) h rest → HasEmptyLine held → length held < length (print_request h) → ⊥
-    beyond held more h rest x line longer =
+    beyond : (buffered more : List ℕ) (h : RequestHead) (rest : List ℕ) → BeginsWith (buffered ++ more) h rest → HasEmptyLine buffered → length buffered < length (print_request h) → ⊥
+    beyond buffered more h rest x line longer =
         let text = print_request h in
-        let k = length text - length held in
-        let size : length text ≡ length held + k = omega (arith, longer) in
-        let part : text ≡ held ++ take k more = sym (take-append_seam text rest) ∙ ap (λ (y : List ℕ). take (length text) y) (sym x.reads.1) ∙ ap (λ (n : ℕ). take n (held ++ more)) size ∙ take-append-add held more k in
+        let k = length text - length buffered in
+        let size : length text ≡ length buffered + k = omega (arith, longer) in
+        let part : text ≡ buffered ++ take k more = sym (take-append_seam text rest) ∙ ap (λ (y : List ℕ). take (length text) y) (sym x.reads.1) ∙ ap (λ (n : ℕ). take n (buffered ++ more)) size ∙ take-append-add buffered more k in
         let front = line.0 in
         let end = line.1 in
         let back = line.2 in
@@ -155,30 +155,30 @@ over_never held none (inr line) = λ more h rest x. elim (cases_lt (length held)
         part ∙ ap (λ (y : List ℕ). y ++ take k more) line.4 ∙ append_assoc front (10 ∷ (print_end end ++ back)) (take k more) ∙ ap (λ (y : List ℕ). front ++ 10 ∷ y) (append_assoc (print_end end) back (take k more)) in
         let nothing = ends_empty h x.reads.0 front end (back ++ take k more) line.3 both in
         let none : length (back ++ take k more) ≡ 0 = ap (λ (y : List ℕ). length y) nothing in
-        absurd (omega (arith, none, length-append back (take k more), ap (λ (y : List ℕ). length y) part, length-append held (take k more), longer))
+        absurd (omega (arith, none, length-append back (take k more), ap (λ (y : List ℕ). length y) part, length-append buffered (take k more), longer))
 
 -- a refusal stays where bytes follow
-pub refused_still : (held left : List ℕ) (fault : HttpFault) → IsCut held (refuses fault) → IsCut (held ++ left) (refuses fault)
-refused_still held left fault (inl x) = inl (x.0, x.1 ++ left, begins_append held x.0 x.1 left x.2, refused (head_of x.0) x.1 (x.1 ++ left) fault x.3)
-refused_still held left fault (inr x) = elim x.1.1 [
-  | inl over ↦ stays (over_never held x.0 over) x.1.0
+pub refused_still : (buffered left : List ℕ) (fault : HttpFault) → IsCut buffered (refuses fault) → IsCut (buffered ++ left) (refuses fault)
+refused_still buffered left fault (inl x) = inl (x.0, x.1 ++ left, begins_append buffered x.0 x.1 left x.2, refused (head_of x.0) x.1 (x.1 ++ left) fault x.3)
+refused_still buffered left fault (inr x) = elim x.1.1 [
+  | inl over ↦ stays (over_never buffered x.0 over) x.1.0
   | inr never ↦ stays never x.1.0
 ]
   where
-    stays : NeverHasHead held → fault ≡ BadHead → IsCut (held ++ left) (refuses fault)
-    stays never is = inr (never left, (is, inr (λ more. subst (λ (y : List ℕ). HasNoHead y) (sym (append_assoc held left more)) (never (left ++ more)))))
+    stays : NeverHasHead buffered → fault ≡ BadHead → IsCut (buffered ++ left) (refuses fault)
+    stays never is = inr (never left, (is, inr (λ more. subst (λ (y : List ℕ). HasNoHead y) (sym (append_assoc buffered left more)) (never (left ++ more)))))
 
-no_first_refused : (held : List ℕ) (fault : HttpFault) → IsCut held (refuses fault) → (request : Request) → ¬ (IsFirst held request)
-no_first_refused held fault (inl cut) request x =
-    let same = request_unique held cut.0 x.0 cut.1 x.1 cut.2.reads x.2.reads in
-    absurd (omega (arith, ap kind (cut.3 ∙ (λ i. outcome_behind (head_of (same.0 i)) (same.1 i)) ∙ sym x.3)))
-no_first_refused held fault (inr cut) request x = cut.0 x.0 x.1 x.2
+no_first_refused : (buffered : List ℕ) (fault : HttpFault) → IsCut buffered (refuses fault) → (request : Request) → ¬ (IsFirst buffered request)
+no_first_refused buffered fault (inl cut) request x =
+    let same = request_unique buffered cut.0 x.0 cut.1 x.1 cut.2.reads x.2.reads in
+    absurd (omega (arith, ap kind (cut.3 ∙ (λ i. cut_value_behind (head_of (same.0 i)) (same.1 i)) ∙ sym x.3)))
+no_first_refused buffered fault (inr cut) request x = cut.0 x.0 x.1 x.2
 
-no_first_waits : (held : List ℕ) → IsCut held waits → (request : Request) → ¬ (IsFirst held request)
-no_first_waits held (inl cut) request x =
-    let same = request_unique held cut.0 x.0 cut.1 x.1 cut.2.reads x.2.reads in
-    absurd (omega (arith, ap kind (cut.3 ∙ (λ i. outcome_behind (head_of (same.0 i)) (same.1 i)) ∙ sym x.3)))
-no_first_waits held (inr cut) request x = cut.0 x.0 x.1 x.2
+no_first_waits : (buffered : List ℕ) → IsCut buffered waits → (request : Request) → ¬ (IsFirst buffered request)
+no_first_waits buffered (inl cut) request x =
+    let same = request_unique buffered cut.0 x.0 cut.1 x.1 cut.2.reads x.2.reads in
+    absurd (omega (arith, ap kind (cut.3 ∙ (λ i. cut_value_behind (head_of (same.0 i)) (same.1 i)) ∙ sym x.3)))
+no_first_waits buffered (inr cut) request x = cut.0 x.0 x.1 x.2
 
 -- where no request closes and the stream ends, no request stands in front
 no_next : (end : StreamEnd) (rest : List ℕ) (request : Request) → HasEnd end false rest → ¬ (IsFirst rest request)
@@ -216,7 +216,7 @@ one_list bytes (r ∷ rs) (s ∷ ss) a b e f x ends y ends' =
     let later = one_later r.close left rs ss a b e f x.1 last x.2 there ends ends_so (λ ends_a ends_b. one_list left rs ss a b e f x.2 ends_a there ends_b) in
     record { requests = λ i. same i ∷ later.requests i; rest = later.rest }
 
-abbrev fault_of : Outcome → HttpFault
+abbrev fault_of : CutValue → HttpFault
 fault_of (takes request) = BadHead
 fault_of waits = BadHead
 fault_of (refuses fault) = fault
@@ -230,7 +230,7 @@ headless_wait rest fault x y = elim y.1 [
 wait_or_refusal : (rest : List ℕ) (fault : HttpFault) → IsCut rest waits → IsCut rest (refuses fault) → IsOpen rest
 wait_or_refusal rest fault (inl x) (inl y) =
     let same = request_unique rest x.0 y.0 x.1 y.1 x.2.reads y.2.reads in
-    absurd (omega (arith, ap kind (x.3 ∙ (λ i. outcome_behind (head_of (same.0 i)) (same.1 i)) ∙ sym y.3)))
+    absurd (omega (arith, ap kind (x.3 ∙ (λ i. cut_value_behind (head_of (same.0 i)) (same.1 i)) ∙ sym y.3)))
 wait_or_refusal rest fault (inl x) (inr y) = absurd (y.0 x.0 x.1 x.2)
 wait_or_refusal rest fault (inr x) (inl y) = absurd (x.0 y.0 y.1 y.2)
 wait_or_refusal rest fault (inr x) (inr y) = headless_wait rest fault x.1 y.1
@@ -238,7 +238,7 @@ wait_or_refusal rest fault (inr x) (inr y) = headless_wait rest fault x.1 y.1
 one_refusal : (rest : List ℕ) (f g : HttpFault) → IsCut rest (refuses f) → IsCut rest (refuses g) → f ≡ g
 one_refusal rest f g (inl x) (inl y) =
     let same = request_unique rest x.0 y.0 x.1 y.1 x.2.reads y.2.reads in
-    ap fault_of (x.3 ∙ (λ i. outcome_behind (head_of (same.0 i)) (same.1 i)) ∙ sym y.3)
+    ap fault_of (x.3 ∙ (λ i. cut_value_behind (head_of (same.0 i)) (same.1 i)) ∙ sym y.3)
 one_refusal rest f g (inl x) (inr y) = absurd (y.0 x.0 x.1 x.2)
 one_refusal rest f g (inr x) (inl y) = absurd (x.0 y.0 y.1 y.2)
 one_refusal rest f g (inr x) (inr y) = x.1.0 ∙ sym y.1.0
@@ -261,11 +261,11 @@ one_stream bytes rs ss e f a b x y =
     (same.requests, one_end b (any_closes ss) e f ends y.ends)
 
 -- a request that is cut isn't longer than what is held
-pub cut_size : (held : List ℕ) (cut : code.Cut) → IsCut held (outcome_of cut) → IfRequest cut (λ request. (0 < request.length) × (request.length ≤ length held))
-cut_size held (cuts.Request request) (inl x) = first_size held (request_value request) x
-cut_size held (cuts.Request request) (inr x) = absurd x.1
-cut_size held cuts.More x = tt
-cut_size held (cuts.Refused fault) x = tt
+pub cut_size : (buffered : List ℕ) (cut : code.Cut) → IsCut buffered (cut_value cut) → IfRequest cut (λ request. (0 < request.length) × (request.length ≤ length buffered))
+cut_size buffered (cuts.Request request) (inl x) = first_size buffered (request_value request) x
+cut_size buffered (cuts.Request request) (inr x) = absurd x.1
+cut_size buffered cuts.More x = tt
+cut_size buffered (cuts.Refused fault) x = tt
 
 -- ---- a stream that waits has room
 
@@ -296,16 +296,16 @@ waits_by head rest (Ok n) fits e = elim (cases_lt (length rest) n) [
   | inr whole ↦ absurd (omega (arith, ap kind (e ∙ ap (λ b. if b then takes (request_of head n rest) else waits) (le-leb n (length rest) whole))))
 ]
 
-waits_behind : (head : Head) (rest : List ℕ) → waits ≡ outcome_behind head rest → length rest < 8192
-unfolding outcome_behind
+waits_behind : (head : Head) (rest : List ℕ) → waits ≡ cut_value_behind head rest → length rest < 8192
+unfolding cut_value_behind
 waits_behind head rest e =
     waits_by head rest (framing head.fields) (framed_fits (values_of (codes "transfer-encoding") head.fields) (body_length (values_of (codes "content-length") head.fields)) (body_fits (values_of (codes "content-length") head.fields))) e
 
-pub waits_room : (held : List ℕ) → IsCut held waits → length held < 16384
-waits_room held (inl x) =
-    let all : length held ≡ length (print_request x.0 ++ x.1) = ap (λ (y : List ℕ). length y) x.2.reads.1 in
+pub waits_room : (buffered : List ℕ) → IsCut buffered waits → length buffered < 16384
+waits_room buffered (inl x) =
+    let all : length buffered ≡ length (print_request x.0 ++ x.1) = ap (λ (y : List ℕ). length y) x.2.reads.1 in
     omega (arith, all, length-append (print_request x.0) x.1, x.2.size, waits_behind (head_of x.0) x.1 x.3)
-waits_room held (inr x) = elim (cases_lt (length held) 8192) [
+waits_room buffered (inr x) = elim (cases_lt (length buffered) 8192) [
   | inl short ↦ omega (arith, short)
   | inr full ↦ absurd (x.1 (inl full))
 ]

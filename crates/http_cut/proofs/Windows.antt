@@ -13,21 +13,21 @@ use Rattle.httparse.proofs.GrammarLemmas.{ReadsRequest-append}
 use Rattle.http_cut.specs.Requests.{BeginsWith, HasNoHead, NeverHasHead, head_of}
 use Rattle.http_cut.specs.SpanValues.{head_at}
 
-pub into_window : (held : List ℕ) (h : RequestHead) (rest : List ℕ) → BeginsWith held h rest
-    → ReadsRequest (take 8192 held) h (take (8192 - length (print_request h)) rest)
-into_window held h rest x =
+pub into_window : (buffered : List ℕ) (h : RequestHead) (rest : List ℕ) → BeginsWith buffered h rest
+    → ReadsRequest (take 8192 buffered) h (take (8192 - length (print_request h)) rest)
+into_window buffered h rest x =
     let text = print_request h in
     let k = 8192 - length text in
     let sum : 8192 ≡ length text + k = omega (arith, x.size) in
-    (x.reads.0, ap (λ (n : ℕ). take n held) sum ∙ ap (λ (y : List ℕ). take (length text + k) y) x.reads.1 ∙ take-append-add text rest k)
+    (x.reads.0, ap (λ (n : ℕ). take n buffered) sum ∙ ap (λ (y : List ℕ). take (length text + k) y) x.reads.1 ∙ take-append-add text rest k)
 
-pub begins : (held : List ℕ) (h : RequestHead) (rest : List ℕ) (n : ℕ) → ReadsRequest (take 8192 held) h rest → n ≡ length (print_request h) → n ≤ 8192
-    → BeginsWith held h (drop n held)
-begins held h rest n x size fits =
+pub begins : (buffered : List ℕ) (h : RequestHead) (rest : List ℕ) (n : ℕ) → ReadsRequest (take 8192 buffered) h rest → n ≡ length (print_request h) → n ≤ 8192
+    → BeginsWith buffered h (drop n buffered)
+begins buffered h rest n x size fits =
     let text = print_request h in
-    let all = rest ++ drop 8192 held in
-    let out : held ≡ text ++ all = sym (take-append-drop 8192 held) ∙ (ReadsRequest-append (take 8192 held) h rest (drop 8192 held) x).1 in
-    let same : drop n held ≡ all = ap (λ (k : ℕ). drop k held) size ∙ ap (λ (y : List ℕ). drop (length text) y) out ∙ drop-append_seam text all in
+    let all = rest ++ drop 8192 buffered in
+    let out : buffered ≡ text ++ all = sym (take-append-drop 8192 buffered) ∙ (ReadsRequest-append (take 8192 buffered) h rest (drop 8192 buffered) x).1 in
+    let same : drop n buffered ≡ all = ap (λ (k : ℕ). drop k buffered) size ∙ ap (λ (y : List ℕ). drop (length text) y) out ∙ drop-append_seam text all in
     record { reads = (x.0, out ∙ ap (λ (y : List ℕ). text ++ y) (sym same)); size = omega (arith, size, fits) }
 
 -- what the spans cover is what is read of the head
@@ -52,18 +52,18 @@ head_size h is =
     let front = print_blank h.blank ++ h.method ++ 32 ∷ h.target ++ 32 ∷ print_version h.minor ++ print_end h.line_end in
     omega (arith, fields_size h.fields is.fields, length-append front (print_section h.fields h.last), length-append (flat_map print_field h.fields) (print_end h.last))
 
-pub no_head : (held : List ℕ) → HasNoRequest (take 8192 held) → HasNoHead held
-no_head held none = λ h rest x. none h _ (into_window held h rest x)
+pub no_head : (buffered : List ℕ) → HasNoRequest (take 8192 buffered) → HasNoHead buffered
+no_head buffered none = λ h rest x. none h _ (into_window buffered h rest x)
 
-pub never : (held : List ℕ) → RequestOverflows 2731 (take 8192 held) → NeverHasHead held
-never held over = λ more h rest x.
-    let window = take 8192 held in
-    let behind = drop 8192 held in
-    let split : held ++ more ≡ window ++ (behind ++ more) = ap (λ (y : List ℕ). y ++ more) (sym (take-append-drop 8192 held)) ∙ append_assoc window behind more in
+pub never : (buffered : List ℕ) → RequestOverflows 2731 (take 8192 buffered) → NeverHasHead buffered
+never buffered over = λ more h rest x.
+    let window = take 8192 buffered in
+    let behind = drop 8192 buffered in
+    let split : buffered ++ more ≡ window ++ (behind ++ more) = ap (λ (y : List ℕ). y ++ more) (sym (take-append-drop 8192 buffered)) ∙ append_assoc window behind more in
     absurd (omega (arith, over (behind ++ more) h rest (x.reads.0, sym split ∙ x.reads.1), head_size h x.reads.0, x.size))
 
-pub never_now : (held : List ℕ) → NeverHasHead held → HasNoHead held
-never_now held none = subst (λ (y : List ℕ). HasNoHead y) (append-nil held) (none [])
+pub never_now : (buffered : List ℕ) → NeverHasHead buffered → HasNoHead buffered
+never_now buffered none = subst (λ (y : List ℕ). HasNoHead y) (append-nil buffered) (none [])
 
 -- a head isn't empty
 pub some_head : (h : RequestHead) → 0 < length (print_request h)

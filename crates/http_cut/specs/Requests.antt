@@ -79,34 +79,34 @@ request_of head n rest = record {
 }
 
 -- what stands at the front of a stream
-pub data Outcome : Type 0 where
-  takes : Request → Outcome
-  waits : Outcome
-  refuses : HttpFault → Outcome
+pub data CutValue : Type 0 where
+  takes : Request → CutValue
+  waits : CutValue
+  refuses : HttpFault → CutValue
 
 -- a body of n bytes that may be there whole
-abbrev pub with_body : Head → List ℕ → ℕ → Outcome
+abbrev pub with_body : Head → List ℕ → ℕ → CutValue
 with_body head rest n = if nat_le n (length rest) then takes (request_of head n rest) else waits
 
-abbrev pub by_framing : Head → List ℕ → Result ℕ HttpFault → Outcome
+abbrev pub by_framing : Head → List ℕ → Result ℕ HttpFault → CutValue
 by_framing head rest (Ok n) = with_body head rest n
 by_framing head rest (Err fault) = refuses fault
 
 -- the outcome where a head is there, with the bytes behind it
-unfoldable pub outcome_behind : Head → List ℕ → Outcome
-outcome_behind head rest = by_framing head rest (framing head.fields)
+unfoldable pub cut_value_behind : Head → List ℕ → CutValue
+cut_value_behind head rest = by_framing head rest (framing head.fields)
 
 -- the outcomes where no head is there. A head that can't come any more may be refused at once.
-abbrev pub IsHeadless : List ℕ → Outcome → Type 0
+abbrev pub IsHeadless : List ℕ → CutValue → Type 0
 IsHeadless bytes (takes request) = ⊥
 IsHeadless bytes waits = ¬ (IsOver bytes)
 IsHeadless bytes (refuses fault) = (fault ≡ BadHead) × (IsOver bytes ⊎ NeverHasHead bytes)
 
 -- the outcome of the held bytes
-abbrev pub IsCut : List ℕ → Outcome → Type 0
-IsCut bytes outcome =
-    ((head : RequestHead) × (rest : List ℕ) × BeginsWith bytes head rest × (outcome ≡ outcome_behind (head_of head) rest))
-    ⊎ (HasNoHead bytes × IsHeadless bytes outcome)
+abbrev pub IsCut : List ℕ → CutValue → Type 0
+IsCut bytes as_cut =
+    ((head : RequestHead) × (rest : List ℕ) × BeginsWith bytes head rest × (as_cut ≡ cut_value_behind (head_of head) rest))
+    ⊎ (HasNoHead bytes × IsHeadless bytes as_cut)
 
 -- what the code's answers stand for
 abbrev pub request_value : HttpRequest → Request
@@ -119,7 +119,7 @@ request_value request = record {
   size = request.length;
 }
 
-abbrev pub outcome_of : code.Cut → Outcome
-outcome_of (cuts.Request request) = takes (request_value request)
-outcome_of cuts.More = waits
-outcome_of (cuts.Refused fault) = refuses fault
+abbrev pub cut_value : code.Cut → CutValue
+cut_value (cuts.Request request) = takes (request_value request)
+cut_value cuts.More = waits
+cut_value (cuts.Refused fault) = refuses fault

@@ -8,12 +8,12 @@ use Rattle.http_cut.specs.declared.stream_end.StreamEnd.TheVariants.{Waits, Clos
 use Rattle.http_cut.specs.declared.request.HttpRequest.{HttpRequest}
 use Rattle.http_cut.specs.declared.request.Cut as code
 use Rattle.http_cut.specs.declared.request.Cut.TheVariants as cuts
-use Rattle.http_cut.specs.Requests.{BeginsWith, NeverHasHead, IsOver, Request, takes, waits, refuses, IsCut, outcome_behind, head_of}
+use Rattle.http_cut.specs.Requests.{BeginsWith, NeverHasHead, IsOver, Request, takes, waits, refuses, IsCut, cut_value_behind, head_of}
 
 -- the bytes begin with this request
 abbrev pub IsFirst : List ℕ → Request → Type 0
 IsFirst bytes request =
-    (head : RequestHead) × (rest : List ℕ) × BeginsWith bytes head rest × (takes request ≡ outcome_behind (head_of head) rest)
+    (head : RequestHead) × (rest : List ℕ) × BeginsWith bytes head rest × (takes request ≡ cut_value_behind (head_of head) rest)
 
 -- no request follows one that closes
 abbrev pub ClosesLast : Bool → List Request → Type 0
@@ -47,18 +47,18 @@ abbrev pub IsOpen : List ℕ → Type 0
 IsOpen rest = NeverHasHead rest × ¬ (IsOver rest)
 
 -- what is held of the rest of a stream: all of it where more is waited for, and else the front of it
-abbrev pub Holds : StreamEnd → List ℕ → List ℕ → Type 0
-Holds Waits held rest = held ≡ rest
-Holds Closes held rest = (left : List ℕ) × (rest ≡ held ++ left)
-Holds (Refused fault) held rest = (left : List ℕ) × (rest ≡ held ++ left) × IsCut held (refuses fault)
+abbrev pub Buffers : StreamEnd → List ℕ → List ℕ → Type 0
+Buffers Waits buffered rest = buffered ≡ rest
+Buffers Closes buffered rest = (left : List ℕ) × (rest ≡ buffered ++ left)
+Buffers (Refused fault) buffered rest = (left : List ℕ) × (rest ≡ buffered ++ left) × IsCut buffered (refuses fault)
 
 -- of the bytes that were brought some came to those that were there, and others are left; what is held is the rest of all
 -- that were there or came, behind these requests
-pub record IsHeld (old brought : List ℕ) (requests : List Request) (held : List ℕ) : Type 0 where
+pub record IsBuffered (old brought : List ℕ) (requests : List Request) (buffered : List ℕ) : Type 0 where
   pub came : List ℕ
   pub left : List ℕ
   pub parts : brought ≡ came ++ left
-  pub whole : AreRequests (old ++ came) requests held
+  pub whole : AreRequests (old ++ came) requests buffered
 
 -- the same for requests that were put behind others, none of which closes
 pub record AreTaken (bytes : List ℕ) (before after : List Request) (rest : List ℕ) : Type 0 where
@@ -69,14 +69,14 @@ pub record AreTaken (bytes : List ℕ) (before after : List Request) (rest : Lis
 
 -- how the taking of requests ended: as the stream goes on, or at a request for which memory wasn't found
 abbrev pub Ends : Result StreamEnd NoMemory → Bool → List ℕ → Type 0
-Ends (Ok end) closed held = HasEnd end closed held
-Ends (Err fault) closed held = (closed ≡ false) × ((request : Request) × IsFirst held request)
+Ends (Ok end) closed buffered = HasEnd end closed buffered
+Ends (Err fault) closed buffered = (closed ≡ false) × ((request : Request) × IsFirst buffered request)
 
-pub record AreTakenTo (bytes : List ℕ) (before after : List Request) (held : List ℕ) (end : Result StreamEnd NoMemory) : Type 0 where
+pub record AreTakenTo (bytes : List ℕ) (before after : List Request) (buffered : List ℕ) (end : Result StreamEnd NoMemory) : Type 0 where
   pub requests : List Request
   pub added : after ≡ before ++ requests
-  pub whole : AreRequests bytes requests held
-  pub ends : Ends end (any_closes requests) held
+  pub whole : AreRequests bytes requests buffered
+  pub ends : Ends end (any_closes requests) buffered
 
 -- whether more is waited for
 abbrev pub is_waiting : Result StreamEnd NoMemory → Bool
@@ -90,11 +90,11 @@ IsAll true left = left ≡ []
 IsAll false left = ⊤
 
 -- the same with bytes that are brought; they all came where more is waited for
-pub record AreTakenOf (old brought : List ℕ) (before after : List Request) (held : List ℕ) (end : Result StreamEnd NoMemory) : Type 0 where
+pub record AreTakenOf (old brought : List ℕ) (before after : List Request) (buffered : List ℕ) (end : Result StreamEnd NoMemory) : Type 0 where
   pub came : List ℕ
   pub left : List ℕ
   pub parts : brought ≡ came ++ left
-  pub taken : AreTakenTo (old ++ came) before after held end
+  pub taken : AreTakenTo (old ++ came) before after buffered end
   pub all : IsAll (is_waiting end) left
 
 -- P of the request, where there is one

@@ -1,6 +1,6 @@
 ghost use Rattle.std.specs.Prelude.{◌≡◌, ◌+◌, ◌^◌, ◌<◌, ◌≤◌, false, length, take, All};
 ghost use Rattle.httparse.specs.Spans.{IsHeaderWithin, IsWithin};
-ghost use Rattle.http_cut.specs.Requests.{IsCut, outcome_of, outcome_behind, with_body, closes};
+ghost use Rattle.http_cut.specs.Requests.{IsCut, cut_value, cut_value_behind, with_body, closes};
 ghost use Rattle.http_cut.specs.SpanValues.{head_at};
 ghost use Rattle.http_cut.specs.declared.place.Place.TheVariants.{Blank};
 ghost use Rattle.http_cut.specs.Places.{place_from, is_end, WaitsBelow, IsKnown};
@@ -17,14 +17,14 @@ use httparse::spans::{EMPTY_HEADER_SPAN, HeaderSpan, RequestSpans, parse_request
 const GREATEST_HEAD: usize = 8_192;
 
 /// The bytes in which a head may stand.
-fn window(held: &[u8]) -> &[u8]
-    ensures value { result.now ≡ take 8192 held.now }
-    ensures size { length held.now ≤ 8192 → result.now ≡ held.now }
+fn window(buffered: &[u8]) -> &[u8]
+    ensures value { result.now ≡ take 8192 buffered.now }
+    ensures size { length buffered.now ≤ 8192 → result.now ≡ buffered.now }
 {
-    if held.len() <= GREATEST_HEAD {
-        return held;
+    if buffered.len() <= GREATEST_HEAD {
+        return buffered;
     }
-    &held[..GREATEST_HEAD]
+    &buffered[..GREATEST_HEAD]
 }
 
 fn closes(bytes: &[u8], head: &RequestSpans, fields: &[HeaderSpan]) -> bool
@@ -49,7 +49,7 @@ fn cut_body<'a>(
     requires path { IsWithin (length bytes.now) head.now.path }
     requires fields { All (IsHeaderWithin (length bytes.now)) fields.now }
     requires size { head.now.len + size < 2 ^ 64 }
-    ensures { outcome_of result ≡ with_body (head_at bytes.now head.now fields.now) rest.now size }
+    ensures { cut_value result ≡ with_body (head_at bytes.now head.now fields.now) rest.now size }
 {
     if rest.len() < size {
         return Cut::More;
@@ -76,7 +76,7 @@ fn cut_behind<'a>(
     requires path { IsWithin (length bytes.now) head.now.path }
     requires fields { All (IsHeaderWithin (length bytes.now)) fields.now }
     requires size { head.now.len ≤ 8192 }
-    ensures { outcome_of result ≡ outcome_behind (head_at bytes.now head.now fields.now) rest.now }
+    ensures { cut_value result ≡ cut_value_behind (head_at bytes.now head.now fields.now) rest.now }
 {
     match framing(bytes, fields) {
         Ok(size) => return cut_body(bytes, rest, head, fields, size),
@@ -85,18 +85,18 @@ fn cut_behind<'a>(
 }
 
 /// What stands at the front of the held bytes.
-fn cut_held<'a>(held: &'a [u8], spans: &mut [HeaderSpan]) -> Cut<'a>
+fn cut_buffered<'a>(buffered: &'a [u8], spans: &mut [HeaderSpan]) -> Cut<'a>
     requires { length spans.old ≡ 2731 }
-    ensures { IsCut held.now (outcome_of result) }
+    ensures { IsCut buffered.now (cut_value result) }
 {
-    let bytes = window(held);
+    let bytes = window(buffered);
     match parse_request(bytes, spans) {
         Ok(Status::Complete(head)) => {
-            let (_, rest) = held.split_at(head.len);
+            let (_, rest) = buffered.split_at(head.len);
             return cut_behind(bytes, rest, &head, &spans[..head.headers]);
         }
         Ok(Status::Partial) => {
-            if held.len() < GREATEST_HEAD {
+            if buffered.len() < GREATEST_HEAD {
                 return Cut::More;
             }
             return Cut::Refused(HttpFault::BadHead);
@@ -106,12 +106,12 @@ fn cut_held<'a>(held: &'a [u8], spans: &mut [HeaderSpan]) -> Cut<'a>
 }
 
 /// What stands at the front of the held bytes where no head ended.
-fn cut_headless<'a>(held: &'a [u8], place: Place) -> Cut<'a>
-    requires place { place ≡ place_from Blank held.now }
+fn cut_headless<'a>(buffered: &'a [u8], place: Place) -> Cut<'a>
+    requires place { place ≡ place_from Blank buffered.now }
     requires head { is_end place ≡ false }
-    ensures { IsCut held.now (outcome_of result) }
+    ensures { IsCut buffered.now (cut_value result) }
 {
-    if held.len() < GREATEST_HEAD {
+    if buffered.len() < GREATEST_HEAD {
         return Cut::More;
     }
     Cut::Refused(HttpFault::BadHead)
@@ -119,32 +119,32 @@ fn cut_headless<'a>(held: &'a [u8], place: Place) -> Cut<'a>
 
 /// What stands at the front of the held bytes, of which this is known.
 pub(crate) fn cut_known<'a>(
-    held: &'a [u8],
+    buffered: &'a [u8],
     place: Place,
     needed: Option<usize>,
     spans: &mut [HeaderSpan],
 ) -> Cut<'a>
-    requires known { IsKnown held.now place needed }
+    requires known { IsKnown buffered.now place needed }
     requires room { length spans.old ≡ 2731 }
-    ensures { IsCut held.now (outcome_of result) }
+    ensures { IsCut buffered.now (cut_value result) }
 {
     if !place.is_end() {
-        return cut_headless(held, place);
+        return cut_headless(buffered, place);
     }
     if let Some(size) = needed
-        && held.len() < size
+        && buffered.len() < size
     {
         return Cut::More;
     }
-    cut_held(held, spans)
+    cut_buffered(buffered, spans)
 }
 
 /// How many bytes the request at the front of the held bytes needs; 0 where none stands there.
-pub(crate) fn needed(held: &[u8]) -> usize
-    ensures { WaitsBelow held.now result }
+pub(crate) fn needed(buffered: &[u8]) -> usize
+    ensures { WaitsBelow buffered.now result }
 {
     let mut spans = [EMPTY_HEADER_SPAN; MOST_FIELDS];
-    let bytes = window(held);
+    let bytes = window(buffered);
     match parse_request(bytes, &mut spans) {
         Ok(Status::Complete(head)) => match framing(bytes, &spans[..head.headers]) {
             Ok(size) => return head.len + size,

@@ -1,5 +1,5 @@
 ghost use Rattle.std.specs.Prelude.{◌≡◌, ◌<◌, ◌≤◌, ◌-◌, ◌++◌, [], length, min, take, drop, IfOk};
-ghost use Rattle.http_cut.specs.Requests.{IsCut, outcome_of, waits};
+ghost use Rattle.http_cut.specs.Requests.{IsCut, cut_value, waits};
 ghost use Rattle.http_cut.specs.Streams.{IfRequest};
 
 use crate::cutting::{cut_known, needed};
@@ -11,7 +11,7 @@ use std::alloc::Global;
 use std::marker::Model;
 
 /// The greatest number of bytes that a stream holds: a head and a body of 8,192 bytes each.
-const GREATEST_HELD: usize = 16_384;
+const GREATEST_BUFFERED: usize = 16_384;
 
 /// The bytes of a connection that came and aren't answered yet, at most 16,384.
 ///
@@ -45,7 +45,7 @@ impl Stream {
     pub fn new(alloc: Global) -> Result<Stream, NoMemory>
         ensures { IfOk result (λ stream. stream ≡ []) }
     {
-        let bytes = Vec::with_capacity(alloc, GREATEST_HELD)?;
+        let bytes = Vec::with_capacity(alloc, GREATEST_BUFFERED)?;
         Ok(Stream {
             bytes,
             place: Place::Blank,
@@ -60,7 +60,7 @@ impl Stream {
         ensures bound { length self.new ≤ 16384 }
     {
         self.look_up_need(piece);
-        let count = piece.len().min(GREATEST_HELD - self.bytes.len());
+        let count = piece.len().min(GREATEST_BUFFERED - self.bytes.len());
         let came = &piece[..count];
         self.place = self.place.behind(came);
         self.bytes.extend_from_slice(came).unwrap();
@@ -82,9 +82,9 @@ impl Stream {
     /// looks up a few of its fields. Else it looks at no byte, so that a head that can't come is refused only where it would
     /// have ended.
     pub fn cut<'a>(&'a self, room: &mut HeadRoom) -> Cut<'a>
-        ensures cut { IsCut self.now (outcome_of result) }
+        ensures cut { IsCut self.now (cut_value result) }
         // Where more is waited for, there is room for it.
-        ensures room { outcome_of result ≡ waits → length self.now < 16384 }
+        ensures room { cut_value result ≡ waits → length self.now < 16384 }
         ensures size { IfRequest result (λ request. (0 < request.length) × (request.length ≤ length self.now)) }
     {
         cut_known(

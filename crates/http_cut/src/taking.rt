@@ -2,7 +2,7 @@
 ghost use Rattle.std.specs.Prelude.{◌≡◌, ◌⊎◌, ◌++◌, ℕ, List, flat_map, IfOk, OnErr, false};
 ghost use Rattle.http_cut.specs.declared.stream_end.StreamEnd.{StreamEnd};
 ghost use Rattle.http_cut.specs.Requests.{Request};
-ghost use Rattle.http_cut.specs.Streams.{AreTakenTo, AreTakenOf, IsStream, IsFirst, IsOpen, IsHeld, Holds, any_closes, is_waiting};
+ghost use Rattle.http_cut.specs.Streams.{AreTakenTo, AreTakenOf, IsStream, IsFirst, IsOpen, IsBuffered, Buffers, any_closes, is_waiting};
 ghost use Rattle.http_cut.specs.Owned.{owned_values};
 
 use crate::owned::{RequestList, copy_of};
@@ -90,9 +90,9 @@ fn take_pieces(
 ) -> Result<StreamEnd, NoMemory>
     ensures { AreTakenOf stream.old (flat_map (λ piece. piece.now) pieces.now) (owned_values out.old) (owned_values out.new) stream.new result }
 {
-    let held = take_out(alloc, stream, room, out);
-    if !is_waiting(&held) {
-        return held;
+    let buffered = take_out(alloc, stream, room, out);
+    if !is_waiting(&buffered) {
+        return buffered;
     }
     for piece in pieces {
         let end = take_piece(alloc, stream, room, out, piece);
@@ -117,10 +117,10 @@ pub fn take_requests(
     pieces: &[&[u8]],
 ) -> Taken
     // What is held is the rest of all that came, in each case.
-    ensures held { IsHeld stream.old (flat_map (λ piece. piece.now) pieces.now) (owned_values result.requests) stream.new }
+    ensures held { IsBuffered stream.old (flat_map (λ piece. piece.now) pieces.now) (owned_values result.requests) stream.new }
     ensures stream { IfOk result.end (λ end. (rest : List ℕ)
         × IsStream (stream.old ++ flat_map (λ piece. piece.now) pieces.now) (owned_values result.requests) end rest
-        × Holds end stream.new rest) }
+        × Buffers end stream.new rest) }
     // The bytes have no other requests, and no other end but where no head can come.
     ensures only { IfOk result.end (λ end. (requests : List Request) (other : StreamEnd) (rest : List ℕ)
         → IsStream (stream.old ++ flat_map (λ piece. piece.now) pieces.now) requests other rest

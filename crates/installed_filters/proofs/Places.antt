@@ -7,8 +7,8 @@ use Rattle.std.proofs.lemmas.List.{map-append, length-append, length-map}
 use Rattle.std.proofs.lemmas.List.Edits.{insert_end}
 use Rattle.filter_rows.specs.declared.rows.ScrubRow.{ScrubRow}
 use Rattle.filter_rows.specs.declared.rows.AclRow.{AclRow}
-use Rattle.filter_table.specs.declared.held.HeldAcl.{HeldAcl}
-use Rattle.filter_table.specs.TableRows.{HeldScrub, with_scrub, without_mitigation, woken, scrub_set, row_set, row_woken, with_acl, without_acl, activated, renumbered, renumbered_from, number_after, place_of_scrub, scrub_at_place, place_of_acl, acl_at_place, is_of, is_named, is_of_client, waits, acl_set, scrub_in, row_is_of}
+use Rattle.filter_table.specs.declared.placed.PlacedAcl.{PlacedAcl}
+use Rattle.filter_table.specs.TableRows.{PlacedScrub, with_scrub, without_mitigation, woken, scrub_set, row_set, row_woken, with_acl, without_acl, activated, renumbered, renumbered_from, number_after, place_of_scrub, scrub_at_place, place_of_acl, acl_at_place, is_of, is_named, is_of_client, waits, acl_set, scrub_in, row_is_of}
 use Rattle.filter_table.specs.Table.{TableValue}
 use Rattle.filter_table.proofs.Places.{length-renumbered}
 use Rattle.filter_table.proofs.Orders.{activated_place}
@@ -43,13 +43,13 @@ anew_rows table new is =
     ap filters_of is
     ∙ ap
     (λ rows. record { scrub_room = table.scrub_room; acl_room = table.acl_room; scrubs = rows; acls = acls_in (anew table) })
-    (same_rows (λ (s : HeldScrub). s.row) place_of_scrub scrub_at_place (λ n x. refl) table.scrubs)
+    (same_rows (λ (s : PlacedScrub). s.row) place_of_scrub scrub_at_place (λ n x. refl) table.scrubs)
     ∙ ap
     (λ rows. record { scrub_room = table.scrub_room; acl_room = table.acl_room; scrubs = scrubs_in table; acls = rows })
-    (same_rows (λ (l : HeldAcl). l.row) place_of_acl acl_at_place (λ n x. refl) table.acls)
+    (same_rows (λ (l : PlacedAcl). l.row) place_of_acl acl_at_place (λ n x. refl) table.acls)
 
 pub anew_placed : (next place : ℕ) (table new : TableValue) → new ≡ anew table → IsPlaced next table
-    → AllByRecursion (λ (s : HeldScrub). s.place < place) new.scrubs → AllByRecursion (λ (l : HeldAcl). l.place < place) new.acls → IsPlaced place new
+    → AllByRecursion (λ (s : PlacedScrub). s.place < place) new.scrubs → AllByRecursion (λ (l : PlacedAcl). l.place < place) new.acls → IsPlaced place new
 anew_placed next place table new is placed scrubs acls = record {
   scrubs = scrubs;
   acls = acls;
@@ -127,7 +127,7 @@ behind place x xs all = ap (λ n. insert xs n x) (all_first place (place x) xs a
 
 -- ---- the calls
 
-abbrev table_with : TableValue → List HeldScrub → List HeldAcl → TableValue
+abbrev table_with : TableValue → List PlacedScrub → List PlacedAcl → TableValue
 table_with table scrubs acls = record { scrub_room = table.scrub_room; acl_room = table.acl_room; scrubs = scrubs; acls = acls }
 
 abbrev pub IsInstalled : ℕ → ScrubRow → TableValue → TableValue → Type 0
@@ -140,7 +140,7 @@ IsInstalled place row table new =
       acls = table.acls;
     })
 
-abbrev scrub_of : ℕ → ℕ → ScrubRow → HeldScrub
+abbrev scrub_of : ℕ → ℕ → ScrubRow → PlacedScrub
 scrub_of slot place row = record { slot = slot; place = place; row = row }
 
 installed_last : (place : ℕ) (row : ScrubRow) (table new : TableValue) → IsPlaced place table → (is : IsInstalled place row table new)
@@ -155,7 +155,7 @@ installed_rows place row first table new old same_first kept placed is =
     ap filters_of (installed_last place row table new placed is)
     ∙ ap
     (λ rows. with_rows (filters_of table) rows (acls_in table))
-    (map-append (λ (s : HeldScrub). s.row) table.scrubs (scrub_of is.0 place row ∷ []))
+    (map-append (λ (s : PlacedScrub). s.row) table.scrubs (scrub_of is.0 place row ∷ []))
     ∙ ap (λ (f : FiltersValue). with_rows f (f.scrubs ++ row ∷ []) f.acls) same
 
 pub installed_placed : (place : ℕ) (row : ScrubRow) (table new : TableValue) → IsPlaced place table → IsInstalled place row table new
@@ -166,7 +166,7 @@ installed_placed place row table new placed is less =
     (sym (installed_last place row table new placed is))
     (record {
       scrubs = each_push
-          (λ (s : HeldScrub). s.place < place + 1)
+          (λ (s : PlacedScrub). s.place < place + 1)
           table.scrubs
           (scrub_of is.0 place row)
           (each_higher place_of_scrub place table.scrubs placed.scrubs)
@@ -182,7 +182,7 @@ pub room_left : (table between : TableValue) (old : FiltersValue) → filters_of
     → length old.scrubs < old.scrub_room → length between.scrubs < between.scrub_room
 room_left table between old same kept less =
     let here : length (scrubs_in between) < between.scrub_room = subst (λ (f : FiltersValue). length f.scrubs < f.scrub_room) (sym (kept ∙ same)) less in
-    let long = length-map between.scrubs (λ (s : HeldScrub). s.row) in
+    let long = length-map between.scrubs (λ (s : PlacedScrub). s.row) in
     omega (arith, here, long)
 
 pub removed_rows : (domain : ℕ) (cuid : List ℕ) (mid : ℕ) (table new : TableValue) (old : FiltersValue)
@@ -192,7 +192,7 @@ removed_rows domain cuid mid table new old is same =
     ap filters_of is
     ∙ ap
     (λ rows. with_rows (filters_of table) rows (acls_in table))
-    (map_filter (λ (s : HeldScrub). s.row) (λ row. not (row_is_of domain cuid mid row)) table.scrubs)
+    (map_filter (λ (s : PlacedScrub). s.row) (λ row. not (row_is_of domain cuid mid row)) table.scrubs)
     ∙ ap (λ (f : FiltersValue). with_rows f (scrubs_without_one domain cuid mid f.scrubs) f.acls) same
 
 pub removed_placed : (domain : ℕ) (cuid : List ℕ) (mid next : ℕ) (table new : TableValue)
@@ -202,7 +202,7 @@ removed_placed domain cuid mid next table new is placed =
     (IsPlaced next)
     (sym is)
     (record {
-      scrubs = each_filter (λ (s : HeldScrub). s.place < next) (λ s. not (is_of domain cuid mid s)) table.scrubs placed.scrubs;
+      scrubs = each_filter (λ (s : PlacedScrub). s.place < next) (λ s. not (is_of domain cuid mid s)) table.scrubs placed.scrubs;
       acls = placed.acls;
       scrub_room = placed.scrub_room;
       acl_room = placed.acl_room;
@@ -210,18 +210,18 @@ removed_placed domain cuid mid next table new is placed =
       few_acls = placed.few_acls;
     })
 
-woken_one : (domain : ℕ) (cuid : List ℕ) (mid : ℕ) (active : Bool) (s : HeldScrub) → (woken domain cuid mid active s).row ≡ row_woken domain cuid mid active s.row
+woken_one : (domain : ℕ) (cuid : List ℕ) (mid : ℕ) (active : Bool) (s : PlacedScrub) → (woken domain cuid mid active s).row ≡ row_woken domain cuid mid active s.row
 woken_one domain cuid mid active s = by_test (row_is_of domain cuid mid s.row)
   where
     by_test : (b : Bool) → (cond b (scrub_set active s) s).row ≡ cond b (row_set active s.row) s.row
     by_test true = refl
     by_test false = refl
 
-woken_all : (domain : ℕ) (cuid : List ℕ) (mid : ℕ) (active : Bool) (held : List HeldScrub)
-    → map (λ (s : HeldScrub). s.row) (map (woken domain cuid mid active) held) ≡ map (row_woken domain cuid mid active) (map (λ (s : HeldScrub). s.row) held)
+woken_all : (domain : ℕ) (cuid : List ℕ) (mid : ℕ) (active : Bool) (held : List PlacedScrub)
+    → map (λ (s : PlacedScrub). s.row) (map (woken domain cuid mid active) held) ≡ map (row_woken domain cuid mid active) (map (λ (s : PlacedScrub). s.row) held)
 woken_all domain cuid mid active [] = refl
 woken_all domain cuid mid active (s ∷ held) =
-    ap (λ r. r ∷ map (λ (x : HeldScrub). x.row) (map (woken domain cuid mid active) held)) (woken_one domain cuid mid active s)
+    ap (λ r. r ∷ map (λ (x : PlacedScrub). x.row) (map (woken domain cuid mid active) held)) (woken_one domain cuid mid active s)
     ∙ ap (λ rows. row_woken domain cuid mid active s.row ∷ rows) (woken_all domain cuid mid active held)
 
 pub woken_rows : (domain : ℕ) (cuid : List ℕ) (mid : ℕ) (active : Bool) (table new : TableValue) (old : FiltersValue)
@@ -232,15 +232,15 @@ woken_rows domain cuid mid active table new old is same =
     ∙ ap (λ rows. with_rows (filters_of table) rows (acls_in table)) (woken_all domain cuid mid active table.scrubs)
     ∙ ap (λ (f : FiltersValue). with_rows f (map (row_woken domain cuid mid active) f.scrubs) f.acls) same
 
-woken_at_place : (domain : ℕ) (cuid : List ℕ) (mid : ℕ) (active : Bool) (s : HeldScrub) → (woken domain cuid mid active s).place ≡ s.place
+woken_at_place : (domain : ℕ) (cuid : List ℕ) (mid : ℕ) (active : Bool) (s : PlacedScrub) → (woken domain cuid mid active s).place ≡ s.place
 woken_at_place domain cuid mid active s = by_test (row_is_of domain cuid mid s.row)
   where
     by_test : (b : Bool) → (cond b (scrub_set active s) s).place ≡ s.place
     by_test true = refl
     by_test false = refl
 
-woken_below : (domain : ℕ) (cuid : List ℕ) (mid : ℕ) (active : Bool) (next : ℕ) (held : List HeldScrub) → AllByRecursion (λ (s : HeldScrub). s.place < next) held
-    → AllByRecursion (λ (s : HeldScrub). s.place < next) (map (woken domain cuid mid active) held)
+woken_below : (domain : ℕ) (cuid : List ℕ) (mid : ℕ) (active : Bool) (next : ℕ) (held : List PlacedScrub) → AllByRecursion (λ (s : PlacedScrub). s.place < next) held
+    → AllByRecursion (λ (s : PlacedScrub). s.place < next) (map (woken domain cuid mid active) held)
 woken_below domain cuid mid active next [] all = all
 woken_below domain cuid mid active next (s ∷ held) all =
     (subst (λ n. n < next) (sym (woken_at_place domain cuid mid active s)) all.0, woken_below domain cuid mid active next held all.1)
@@ -260,12 +260,12 @@ woken_placed domain cuid mid active next table new is placed =
       few_acls = placed.few_acls;
     })
 
-abbrev list_of : ℕ → AclRow → HeldAcl
+abbrev list_of : ℕ → AclRow → PlacedAcl
 list_of place row = record { place = place; row = row }
 
-others_rows : (domain : ℕ) (cuid name : List ℕ) (held : List HeldAcl)
-    → map (λ (l : HeldAcl). l.row) (without_acl domain cuid name held) ≡ acls_without domain cuid name (map (λ (l : HeldAcl). l.row) held)
-others_rows domain cuid name held = map_filter (λ (l : HeldAcl). l.row) (λ row. not (is_named_row domain cuid name row)) held
+others_rows : (domain : ℕ) (cuid name : List ℕ) (held : List PlacedAcl)
+    → map (λ (l : PlacedAcl). l.row) (without_acl domain cuid name held) ≡ acls_without domain cuid name (map (λ (l : PlacedAcl). l.row) held)
+others_rows domain cuid name held = map_filter (λ (l : PlacedAcl). l.row) (λ row. not (is_named_row domain cuid name row)) held
 
 set_last : (place : ℕ) (row : AclRow) (table new : TableValue) → IsPlaced place table
     → new ≡ table_with table table.scrubs (with_acl (list_of place row) (without_acl row.domain row.cuid row.acl.name table.acls))
@@ -278,7 +278,7 @@ set_last place row table new placed is =
     place_of_acl
     (list_of place row)
     (without_acl row.domain row.cuid row.acl.name table.acls)
-    (each_filter (λ (l : HeldAcl). l.place < place) (λ l. not (is_named row.domain row.cuid row.acl.name l)) table.acls placed.acls))
+    (each_filter (λ (l : PlacedAcl). l.place < place) (λ l. not (is_named row.domain row.cuid row.acl.name l)) table.acls placed.acls))
 
 pub set_rows : (place : ℕ) (row : AclRow) (first table new : TableValue) (old : FiltersValue) → filters_of first ≡ old → filters_of table ≡ filters_of first
     → IsPlaced place table
@@ -289,7 +289,7 @@ set_rows place row first table new old same_first kept placed is =
     ap filters_of (set_last place row table new placed is)
     ∙ ap
     (λ rows. with_rows (filters_of table) (scrubs_in table) rows)
-    (map-append (λ (l : HeldAcl). l.row) (without_acl row.domain row.cuid row.acl.name table.acls) (list_of place row ∷ [])
+    (map-append (λ (l : PlacedAcl). l.row) (without_acl row.domain row.cuid row.acl.name table.acls) (list_of place row ∷ [])
     ∙ ap (λ rows. rows ++ row ∷ []) (others_rows row.domain row.cuid row.acl.name table.acls))
     ∙ ap (λ (f : FiltersValue). with_rows f f.scrubs (acls_without row.domain row.cuid row.acl.name f.acls ++ row ∷ [])) same
 
@@ -303,11 +303,11 @@ set_placed place row table new placed is less =
     (record {
       scrubs = each_higher place_of_scrub place table.scrubs placed.scrubs;
       acls = each_push
-          (λ (l : HeldAcl). l.place < place + 1)
+          (λ (l : PlacedAcl). l.place < place + 1)
           (without_acl row.domain row.cuid row.acl.name table.acls)
           (list_of place row)
           (each_filter
-          (λ (l : HeldAcl). l.place < place + 1)
+          (λ (l : PlacedAcl). l.place < place + 1)
           (λ l. not (is_named row.domain row.cuid row.acl.name l))
           table.acls
           (each_higher place_of_acl place table.acls placed.acls))
@@ -325,7 +325,7 @@ list_room row table between old same kept less =
     let here : length (acls_without row.domain row.cuid row.acl.name (acls_in between)) < between.acl_room =
     subst (λ (f : FiltersValue). length (acls_without row.domain row.cuid row.acl.name f.acls) < f.acl_room) (sym (kept ∙ same)) less in
     let rows = ap length (others_rows row.domain row.cuid row.acl.name between.acls) in
-    let long = length-map (without_acl row.domain row.cuid row.acl.name between.acls) (λ (l : HeldAcl). l.row) in
+    let long = length-map (without_acl row.domain row.cuid row.acl.name between.acls) (λ (l : PlacedAcl). l.row) in
     omega (arith, here, rows, long)
 
 pub dropped_rows : (domain : ℕ) (cuid name : List ℕ) (table new : TableValue) (old : FiltersValue)
@@ -344,25 +344,25 @@ dropped_placed domain cuid name next table new is placed =
     (sym is)
     (record {
       scrubs = placed.scrubs;
-      acls = each_filter (λ (l : HeldAcl). l.place < next) (λ l. not (is_named domain cuid name l)) table.acls placed.acls;
+      acls = each_filter (λ (l : PlacedAcl). l.place < next) (λ l. not (is_named domain cuid name l)) table.acls placed.acls;
       scrub_room = placed.scrub_room;
       acl_room = placed.acl_room;
       few_scrubs = placed.few_scrubs;
       few_acls = let few = length_filter_most (λ l. not (is_named domain cuid name l)) table.acls in let most = placed.few_acls in omega (arith, few, most);
     })
 
-activated_one : (domain : ℕ) (cuid : List ℕ) (active : Bool) (l : HeldAcl) → (activated domain cuid active l).row ≡ activated_row domain cuid active l.row
+activated_one : (domain : ℕ) (cuid : List ℕ) (active : Bool) (l : PlacedAcl) → (activated domain cuid active l).row ≡ activated_row domain cuid active l.row
 activated_one domain cuid active l = by_test (is_of_client domain cuid l.row.domain l.row.cuid && waits l.row.acl.activation)
   where
     by_test : (b : Bool) → (cond b (acl_set active l) l).row ≡ cond b (acl_switched active l.row) l.row
     by_test true = refl
     by_test false = refl
 
-activated_all : (domain : ℕ) (cuid : List ℕ) (active : Bool) (held : List HeldAcl)
-    → map (λ (l : HeldAcl). l.row) (map (activated domain cuid active) held) ≡ map (activated_row domain cuid active) (map (λ (l : HeldAcl). l.row) held)
+activated_all : (domain : ℕ) (cuid : List ℕ) (active : Bool) (held : List PlacedAcl)
+    → map (λ (l : PlacedAcl). l.row) (map (activated domain cuid active) held) ≡ map (activated_row domain cuid active) (map (λ (l : PlacedAcl). l.row) held)
 activated_all domain cuid active [] = refl
 activated_all domain cuid active (l ∷ held) =
-    ap (λ r. r ∷ map (λ (x : HeldAcl). x.row) (map (activated domain cuid active) held)) (activated_one domain cuid active l)
+    ap (λ r. r ∷ map (λ (x : PlacedAcl). x.row) (map (activated domain cuid active) held)) (activated_one domain cuid active l)
     ∙ ap (λ rows. activated_row domain cuid active l.row ∷ rows) (activated_all domain cuid active held)
 
 pub activated_rows : (domain : ℕ) (cuid : List ℕ) (active : Bool) (table new : TableValue) (old : FiltersValue)
@@ -373,8 +373,8 @@ activated_rows domain cuid active table new old is same =
     ∙ ap (λ rows. with_rows (filters_of table) (scrubs_in table) rows) (activated_all domain cuid active table.acls)
     ∙ ap (λ (f : FiltersValue). with_rows f f.scrubs (map (activated_row domain cuid active) f.acls)) same
 
-activated_below : (domain : ℕ) (cuid : List ℕ) (active : Bool) (next : ℕ) (held : List HeldAcl) → AllByRecursion (λ (l : HeldAcl). l.place < next) held
-    → AllByRecursion (λ (l : HeldAcl). l.place < next) (map (activated domain cuid active) held)
+activated_below : (domain : ℕ) (cuid : List ℕ) (active : Bool) (next : ℕ) (held : List PlacedAcl) → AllByRecursion (λ (l : PlacedAcl). l.place < next) held
+    → AllByRecursion (λ (l : PlacedAcl). l.place < next) (map (activated domain cuid active) held)
 activated_below domain cuid active next [] all = all
 activated_below domain cuid active next (l ∷ held) all =
     (subst (λ n. n < next) (sym (activated_place domain cuid active l)) all.0, activated_below domain cuid active next held all.1)

@@ -6,8 +6,8 @@ use Rattle.acl_lists.specs.declared.acl.Activation.{Activation}
 use Rattle.acl_lists.specs.declared.acl.Activation.TheVariants.{WhenMitigating, Immediate, Deactivate}
 use Rattle.filter_rows.specs.declared.rows.ScrubRow.{ScrubRow}
 use Rattle.filter_rows.specs.declared.rows.AclRow.{AclRow}
-use Rattle.filter_table.specs.declared.held.HeldAcl.{HeldAcl}
-use Rattle.filter_table.specs.TableRows.{HeldScrub, is_of_client, row_is_of, row_set, waits}
+use Rattle.filter_table.specs.declared.placed.PlacedAcl.{PlacedAcl}
+use Rattle.filter_table.specs.TableRows.{PlacedScrub, is_of_client, row_is_of, row_set, waits}
 use Rattle.filter_table.specs.Table.{TableValue}
 use Rattle.dots_history.specs.declared.entry.Entry.{Entry}
 use Rattle.ip_scope.specs.Prefix.{PrefixValue}
@@ -232,10 +232,10 @@ needs_rows _ = false
 
 -- the rows of a filter table, in order of place
 abbrev pub scrubs_in : TableValue → List ScrubRow
-scrubs_in table = map (λ (scrub : HeldScrub). scrub.row) table.scrubs
+scrubs_in table = map (λ (scrub : PlacedScrub). scrub.row) table.scrubs
 
 abbrev pub acls_in : TableValue → List AclRow
-acls_in table = map (λ (list : HeldAcl). list.row) table.acls
+acls_in table = map (λ (list : PlacedAcl). list.row) table.acls
 
 abbrev pub filters_of : TableValue → FiltersValue
 filters_of table = record { scrub_room = table.scrub_room; acl_room = table.acl_room; scrubs = scrubs_in table; acls = acls_in table }

@@ -29,7 +29,7 @@ use Rattle.dots_machine.specs.Machine.{State, later, option_verdict, reject_verd
 use Rattle.dots_machine.proofs.Hearing.{answer_history}
 use Rattle.machine_laws.specs.Adding.{CarriesRequest, AddsWhatIsAsked}
 use Rattle.machine_laws.proofs.Telling.{quiet, plain_message}
-use Rattle.machine_laws.proofs.Deciding.{IsExchange, Holds, holds_weaker, CarriesSome, answer_carries}
+use Rattle.machine_laws.proofs.Deciding.{IsExchange, Meets, meets_weaker, CarriesSome, answer_carries}
 
 -- ---- who asks something has a Message ID and a token
 in_message : (m : CoapMessage) → IsMessage m → IsExchange (exchange_in m)
@@ -52,7 +52,7 @@ module _ (settings : SettingsValue) (state : State) (peer : ℕ) (datagram : Lis
     pub reply_is : entry.reply ≡ reply
 
   abbrev pub IsRight : Verdict → Type 0
-  IsRight v = Holds state.history peer CarriesReply v
+  IsRight v = Meets state.history peer CarriesReply v
 
   dismissed_right : (answer : Dismissal) → IsRight (dismissal_verdict answer)
   dismissed_right dismissal.Ignored = tt
@@ -84,7 +84,7 @@ module _ (settings : SettingsValue) (state : State) (peer : ℕ) (datagram : Lis
     said_right (received.Refused x e) is = rejected_right x e
     said_right (received.Asked x asked) is =
         let fit = asked_exchange datagram (is_gateway (role_of settings peer)) x asked is in
-        holds_weaker state.history peer (CarriesSome settings state.time state.history facts are peer x fit asked) CarriesReply
+        meets_weaker state.history peer (CarriesSome settings state.time state.history facts are peer x fit asked) CarriesReply
         (λ reply entry has. record {
           carries = record {
             known = known;
@@ -112,7 +112,7 @@ module _ (settings : SettingsValue) (state : State) (peer : ℕ) (datagram : Lis
   right_adds verdict.Silent right = inl refl
   right_adds (verdict.Reply reply) right = inl refl
   right_adds (verdict.LongReply reply) right = inl refl
-  right_adds (verdict.Shows x body) right = inl refl
+  right_adds (verdict.Retrieves x body) right = inl refl
   right_adds (verdict.Accept reply entry) right = inr (entry, refl, right.carries)
 
   pub answers_add : (sends : List OwnedOut) (new : State) → Answers settings state peer datagram sends new → AddsAsked new.history

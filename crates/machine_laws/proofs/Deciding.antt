@@ -40,7 +40,7 @@ use Rattle.dots_machine.specs.declared.exchange.Exchange.{Exchange}
 use Rattle.dots_machine.specs.declared.mitigation_request.MitigationRequest.{MitigationRequest}
 use Rattle.dots_machine.specs.Verdict.{Verdict}
 use Rattle.dots_machine.specs.declared.verdict.Verdict.TheVariants as verdict
-use Rattle.dots_machine.specs.Domains.{domain_for, session_domain}
+use Rattle.dots_machine.specs.Domains.{domain_for, config_domain}
 use Rattle.dots_machine.specs.Replies.{conflicting, configuration_reply, session_view, absent, plain}
 use Rattle.dots_machine.specs.MessageRepeats.{Repeats, sent_for, unless_repeated}
 use Rattle.dots_machine.specs.Mitigations.{key_of, request_of, refusal, judged, is_wanted, get_reply, unless_faulty, put_answer, client_for, is_taken, delete_by, delete_answer, get_by}
@@ -69,37 +69,37 @@ module _ (history : List Entry) (peer : ℕ) where
   IsSpoken reply = IsQuiet reply ⊎ WasAnswered history peer reply
 
   -- where a verdict accepts, this holds of the reply and the entry
-  abbrev pub Holds : (List ℕ → Entry → Type 0) → Verdict → Type 0
-  Holds P verdict.Silent = Unit {0}
-  Holds P (verdict.Reply reply) = IsSpoken reply
-  Holds P (verdict.LongReply reply) = IsSpoken reply
-  Holds P (verdict.Shows x body) = Unit {0}
-  Holds P (verdict.Accept reply entry) = P reply entry
+  abbrev pub Meets : (List ℕ → Entry → Type 0) → Verdict → Type 0
+  Meets P verdict.Silent = Unit {0}
+  Meets P (verdict.Reply reply) = IsSpoken reply
+  Meets P (verdict.LongReply reply) = IsSpoken reply
+  Meets P (verdict.Retrieves x body) = Unit {0}
+  Meets P (verdict.Accept reply entry) = P reply entry
 
-  pub holds_weaker : (P Q : List ℕ → Entry → Type 0) → ((reply : List ℕ) (entry : Entry) → P reply entry → Q reply entry) → (v : Verdict) → Holds P v → Holds Q v
-  holds_weaker P Q each verdict.Silent holds = tt
-  holds_weaker P Q each (verdict.Reply reply) holds = holds
-  holds_weaker P Q each (verdict.LongReply reply) holds = holds
-  holds_weaker P Q each (verdict.Shows x body) holds = tt
-  holds_weaker P Q each (verdict.Accept reply entry) holds = each reply entry holds
+  pub meets_weaker : (P Q : List ℕ → Entry → Type 0) → ((reply : List ℕ) (entry : Entry) → P reply entry → Q reply entry) → (v : Verdict) → Meets P v → Meets Q v
+  meets_weaker P Q each verdict.Silent holds = tt
+  meets_weaker P Q each (verdict.Reply reply) holds = holds
+  meets_weaker P Q each (verdict.LongReply reply) holds = holds
+  meets_weaker P Q each (verdict.Retrieves x body) holds = tt
+  meets_weaker P Q each (verdict.Accept reply entry) holds = each reply entry holds
 
   module _ (P : List ℕ → Entry → Type 0) where
-    unless_of : (x : Exchange) (fault : Option TargetFault) (v : Verdict) → Holds P v → Holds P (unless_faulty x fault v)
+    unless_of : (x : Exchange) (fault : Option TargetFault) (v : Verdict) → Meets P v → Meets P (unless_faulty x fault v)
     unless_of x (Some fault) v of = inl (quiet (plain_message BAD_REQUEST x (target_text fault)) refl)
     unless_of x None v of = of
 
-    in_domain_of : (x : Exchange) (found : Option ℕ) (f : ℕ → Verdict) → ((d : ℕ) → found ≡ Some d → Holds P (f d)) → Holds P (in_domain x found f)
+    in_domain_of : (x : Exchange) (found : Option ℕ) (f : ℕ → Verdict) → ((d : ℕ) → found ≡ Some d → Meets P (f d)) → Meets P (in_domain x found f)
     in_domain_of x None f each = inl (quiet (plain_message BAD_REQUEST x (reject_text reject.Parameter)) refl)
     in_domain_of x (Some d) f each = each d refl
 
-    with_mid_of : (x : Exchange) (mid : Option ℕ) (f : ℕ → Verdict) → ((m : ℕ) → mid ≡ Some m → Holds P (f m)) → Holds P (with_mid x mid f)
+    with_mid_of : (x : Exchange) (mid : Option ℕ) (f : ℕ → Verdict) → ((m : ℕ) → mid ≡ Some m → Meets P (f m)) → Meets P (with_mid x mid f)
     with_mid_of x None f each = inl (quiet (plain_message BAD_REQUEST x (reject_text reject.Parameter)) refl)
     with_mid_of x (Some m) f each = each m refl
 
     conflict_of : (x : Exchange) (mid : Option ℕ) (why : ConflictCause) → IsSpoken (conflicting x mid why)
     conflict_of x mid why = inl (quiet (body_message CONFLICT x (canon (reply_tree (reply.Conflict (record { mid = mid; cause = why }))))) refl)
 
-    refusal_of : (x : Exchange) (mid : ℕ) (fault : PutFault) → Holds P (refusal x mid fault)
+    refusal_of : (x : Exchange) (mid : ℕ) (fault : PutFault) → Meets P (refusal x mid fault)
     refusal_of x mid faults.Collision = conflict_of x (Some mid) cause.Collision
     refusal_of x mid faults.Changed = inl (quiet (plain_message BAD_REQUEST x (codes "changed")) refl)
     refusal_of x mid faults.UnknownAlias = inl (quiet (plain_message BAD_REQUEST x (codes "unknown alias")) refl)
@@ -109,22 +109,22 @@ module _ (history : List Entry) (peer : ℕ) where
     refusal_of x mid (faults.Capacity which number) = inl (quiet (plain_message SERVICE_UNAVAILABLE x (codes "capacity")) refl)
     refusal_of x mid faults.NoMemory = inl (quiet (plain_message INTERNAL_SERVER_ERROR x []) refl)
 
-    get_of : (x : Exchange) (mid : Option ℕ) (content : Content) (taken : Bool) (views : List LiveView) → Holds P (get_by x mid content taken views)
+    get_of : (x : Exchange) (mid : Option ℕ) (content : Content) (taken : Bool) (views : List LiveView) → Meets P (get_by x mid content taken views)
     get_of x mid content true views = conflict_of x mid cause.Collision
     get_of x mid content false views = told (filter (is_wanted mid) views)
       where
-        told : (ms : List LiveView) → Holds P (get_reply x content ms)
+        told : (ms : List LiveView) → Meets P (get_reply x content ms)
         told [] = inl (quiet (plain_message NOT_FOUND x (codes "absent")) refl)
         told (m ∷ ms) = tt
 
     configured_of : (x : Exchange) (configured : Option Configured) → IsSpoken (configuration_reply x configured)
     configured_of x configured = inl (quiet (body_message CONTENT x (canon (reply_tree (reply.Session (session_view configured))))) refl)
 
-    view_of : (x : Exchange) (sid : Option ℕ) (configured : Option Configured) → Holds P (config_view x sid configured)
+    view_of : (x : Exchange) (sid : Option ℕ) (configured : Option Configured) → Meets P (config_view x sid configured)
     view_of x None configured = configured_of x configured
     view_of x (Some sid) configured = by_test (is_held sid configured)
       where
-        by_test : (there : Bool) → Holds P (if there then verdict.LongReply (configuration_reply x configured) else verdict.Reply (absent x))
+        by_test : (there : Bool) → Meets P (if there then verdict.LongReply (configuration_reply x configured) else verdict.Reply (absent x))
         by_test true = configured_of x configured
         by_test false = inl (quiet (plain_message NOT_FOUND x (codes "absent")) refl)
 
@@ -170,7 +170,7 @@ module _ (settings : SettingsValue) (t : ℕ) (history : List Entry) (facts : Fa
   CarriesSome asked reply entry = (domain : ℕ) × (domain_of settings (role_of settings peer) asked ≡ Some domain) × CarriesFor asked domain reply entry
 
   abbrev pub IsFine : Request → Verdict → Type 0
-  IsFine asked v = Holds history peer (CarriesSome asked) v
+  IsFine asked v = Meets history peer (CarriesSome asked) v
 
   -- the answer to a repeat is remembered
   repeat_of : (asked : Request) (domain : ℕ) (v : Verdict) → IsFine asked v → IsFine asked (unless_repeated (facts.repeated (sent_for peer x domain)) v)
@@ -238,7 +238,7 @@ module _ (settings : SettingsValue) (t : ℕ) (history : List Entry) (facts : Fa
         )
         by_test false false = inl (quiet (plain_message DELETED x []) refl)
 
-  module _ (sid domain : ℕ) (found : session_domain (role_of settings peer) ≡ Some domain) where
+  module _ (sid domain : ℕ) (found : config_domain (role_of settings peer) ≡ Some domain) where
     config_carries : (body : ConfigBody) (held : Option ℕ) (replaced : Bool) (r : Result Config ConfigFault) → negotiated held sid body ≡ r
         → IsFine (request.PutConfig sid body) (config_answer facts.time peer domain x sid replaced r)
     config_carries body held replaced (Ok config) agreed = (
@@ -288,14 +288,14 @@ module _ (settings : SettingsValue) (t : ℕ) (history : List Entry) (facts : Fa
       with_mid_of history peer (CarriesSome (request.DeleteMitigation path)) x path.mid (delete_in facts (asks_for peer x path domain))
       (λ mid has. repeat_of (request.DeleteMitigation path) domain _ (delete_carries path domain found mid has)))
   answer_carries (request.PutConfig sid body) =
-      in_domain_of history peer (CarriesSome (request.PutConfig sid body)) x (session_domain (role_of settings peer)) (put_config_for facts peer x sid body)
+      in_domain_of history peer (CarriesSome (request.PutConfig sid body)) x (config_domain (role_of settings peer)) (put_config_for facts peer x sid body)
       (λ domain found.
       repeat_of (request.PutConfig sid body) domain _
       (config_carries sid domain found body (sid_of (facts.configured domain peer)) (is_held sid (facts.configured domain peer)) (negotiated (sid_of (facts.configured domain peer)) sid body) refl))
   answer_carries (request.GetConfig sid) =
-      in_domain_of history peer (CarriesSome (request.GetConfig sid)) x (session_domain (role_of settings peer)) (get_config_for facts peer x sid)
+      in_domain_of history peer (CarriesSome (request.GetConfig sid)) x (config_domain (role_of settings peer)) (get_config_for facts peer x sid)
       (λ domain found. view_of history peer (CarriesSome (request.GetConfig sid)) x sid (facts.configured domain peer))
   answer_carries (request.DeleteConfig sid) =
-      in_domain_of history peer (CarriesSome (request.DeleteConfig sid)) x (session_domain (role_of settings peer)) (delete_config_for facts peer x sid)
+      in_domain_of history peer (CarriesSome (request.DeleteConfig sid)) x (config_domain (role_of settings peer)) (delete_config_for facts peer x sid)
       (λ domain found. repeat_of (request.DeleteConfig sid) domain _ (clear_carries sid domain found (is_held sid (facts.configured domain peer))))
   answer_carries (request.PutHeartbeat heard) = inl (empty_quiet x is_exchange CHANGED (omega arith) (λ none. absurd (cc none)))

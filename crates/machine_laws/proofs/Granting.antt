@@ -77,7 +77,7 @@ module _ (settings : SettingsValue) (state : State) (peer : ℕ) (datagram : Lis
   sent_answered number verdict.Silent right has = absurd (in_none (owned.To to bytes) has)
   sent_answered number (verdict.Reply reply) right has = spoken reply right (one_sent peer to reply bytes has)
   sent_answered number (verdict.LongReply reply) right has = spoken reply right (one_sent peer to reply bytes has)
-  sent_answered number (verdict.Shows x body) right has =
+  sent_answered number (verdict.Retrieves x body) right has =
       absurd (quiet (record { kind = reply_kind x.kind; code = CONTENT; identifier = x.id; token = x.token; options = observe_with number ++ dots_cbor ∷ []; payload = body }) refl (subst Says (sym (one_sent peer to (showing x number body) bytes has).1) says))
   sent_answered number (verdict.Accept reply entry) right has =
       let same = one_sent peer to reply bytes has in

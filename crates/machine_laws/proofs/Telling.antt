@@ -3,7 +3,7 @@ use Rattle.std.specs.Prelude.{slice_get}
 use Rattle.std.proofs.Common.{◌≡◌, inl, inr, ◌⊎◌, ℕ, ℤ, ◌==◌, ◌&&◌, ◌||◌, Bool, true, false, List, [], ◌∷◌, Some, Contains, sym, ap, ◌∙◌, subst}
 use Rattle.std.proofs.lemmas.Bool.{false≢true, and_parts, eqb-true}
 use Rattle.std.proofs.lemmas.Option.{slice_get_within, get_or_from_slice_get}
-use Rattle.cbor_profile.specs.Spelling.{Spells, SpellsWithin, Holds, definite, indefinite}
+use Rattle.cbor_profile.specs.Spelling.{Spells, SpellsWithin, Encloses, definite, indefinite}
 use Rattle.coap_message.specs.declared.codes.TheConstants.{CREATED, CHANGED}
 use Rattle.coap_message.specs.Message.{CoapMessage, IsMessage, spelling}
 use Rattle.dots_history.specs.declared.entry.Entry.{Entry}
@@ -50,7 +50,7 @@ unfolding SpellsWithin
 unspelled mid lifetime (le, inl plain) = plain
 unspelled mid lifetime (le, inr nest) = unheld nest.2
   where
-    unheld : {major n : ℕ} {content : List ℕ} → Holds major n content [] → ⊥
+    unheld : {major n : ℕ} {content : List ℕ} → Encloses major n content [] → ⊥
     unheld (definite head is e) = let starts = is.is in cc
     unheld (indefinite e) = cc e
 

@@ -3,7 +3,7 @@ use Rattle.std.specs.Prelude.{◌≡◌, ◌<◌, ℕ, true, ◌&&◌, if◌then
 use Rattle.peer_endpoints.specs.declared.head.Head.{Head}
 use Rattle.peer_endpoints.specs.declared.way.Way.{Way}
 use Rattle.peer_endpoints.specs.Headers.{is_get}
-use Rattle.peer_endpoints.specs.Returns.{Reached, after_heard, after_sent}
+use Rattle.peer_endpoints.specs.Returns.{Reached, after_received, after_sent}
 
 -- a datagram with this header, where it has one, came from there, or went to the peer
 pub data Passed : Type 0 where
@@ -13,7 +13,7 @@ pub data Passed : Type 0 where
 -- what is known after all that passed, the newest first, where this was known before
 abbrev pub reached : Option Way → List Passed → Reached
 reached known [] = record { last = known; asked = None; getters = [] }
-reached known (came way head ∷ earlier) = after_heard way head (reached known earlier)
+reached known (came way head ∷ earlier) = after_received way head (reached known earlier)
 reached known (went head ∷ earlier) = after_sent head (reached known earlier)
 
 -- where the last datagram came from

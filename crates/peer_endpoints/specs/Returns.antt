@@ -46,8 +46,8 @@ getters_after way None getters = getters
 getters_after way (Some head) getters = if is_get head then with_getter (record { token = head.token; way = way }) getters else getters
 
 -- a datagram with this header came
-abbrev pub after_heard : Way → Option Head → Reached → Reached
-after_heard way head reached = record { last = Some way; asked = head; getters = getters_after way head reached.getters }
+abbrev pub after_received : Way → Option Head → Reached → Reached
+after_received way head reached = record { last = Some way; asked = head; getters = getters_after way head reached.getters }
 
 -- what was found in front of the others
 abbrev pub found_first : List ℕ → List Getter → Option Getter → List Getter

@@ -2,7 +2,7 @@
 
 ghost use Rattle.std.specs.Prelude.{◌≡◌, [], None, IfOk};
 ghost use Rattle.peer_endpoints.specs.Headers.{head_in};
-ghost use Rattle.peer_endpoints.specs.Returns.{after_heard, after_sent, goes_to, is_answered};
+ghost use Rattle.peer_endpoints.specs.Returns.{after_received, after_sent, goes_to, is_answered};
 
 use crate::getter::Getter;
 use crate::getters::{MAX_GETTERS, note, renew};
@@ -53,8 +53,8 @@ impl Endpoints {
     }
 
     /// A datagram of the peer came this way.
-    pub fn hear(&mut self, way: Way, bytes: &[u8])
-        ensures { self.new ≡ after_heard way (head_in bytes.now) self.old }
+    pub fn receive(&mut self, way: Way, bytes: &[u8])
+        ensures { self.new ≡ after_received way (head_in bytes.now) self.old }
     {
         self.last = Some(way);
         self.asked = read_head(bytes);

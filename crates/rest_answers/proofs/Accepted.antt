@@ -10,16 +10,16 @@ use Rattle.http_cut.specs.Reply.{status_line}
 use Rattle.data_channel.specs.declared.replies.RestBody.{RestBody}
 use Rattle.data_channel.specs.declared.request.RestRequest.{RestRequest}
 use Rattle.data_channel.specs.declared.request.RestRequest.TheVariants as request
-use Rattle.rest_judging.specs.declared.outcome.RestOutcome.{RestOutcome}
-use Rattle.rest_judging.specs.declared.outcome.RestOutcome.TheVariants as outcome
+use Rattle.rest_judging.specs.declared.decision.RestDecision.{RestDecision}
+use Rattle.rest_judging.specs.declared.decision.RestDecision.TheVariants as decision
 use Rattle.rest_judging.specs.Asking.{verb_of, kind_of, cuid_of}
-use Rattle.rest_judging.specs.Outcomes.{is_accepted}
+use Rattle.rest_judging.specs.Decisions.{is_accepted}
 use Rattle.rest_judging.specs.Judging.{judge}
 use Rattle.rest_answers.specs.declared.answer.RestAnswer.TheVariants as answer
 use Rattle.rest_answers.specs.declared.caller.Caller.{Caller}
 use Rattle.rest_answers.specs.Known.{Known}
 use Rattle.rest_answers.specs.Changes.{change_of, changed_by, entry_of}
-use Rattle.rest_answers.specs.Replies.{outcome_reply, unavailable}
+use Rattle.rest_answers.specs.Replies.{decision_reply, unavailable}
 use Rattle.rest_answers.specs.Answers.{body_of, changing, showing, telling, rest_answer, IsOf}
 
 -- ---- the entry
@@ -60,18 +60,18 @@ entry_is_of time caller asked e is = of_change time caller asked (change_of aske
 abbrev IsSuccess : List ℕ → Type 0
 IsSuccess reply = (rest : List ℕ) × (reply ≡ codes "HTTP/1.1 2" ++ rest)
 
-success : (close : Bool) (asked : RestRequest) (outcome : RestOutcome) → is_accepted outcome ≡ true → IsSuccess (outcome_reply close asked outcome)
+success : (close : Bool) (asked : RestRequest) (decision : RestDecision) → is_accepted decision ≡ true → IsSuccess (decision_reply close asked decision)
 unfolding status_line
-success close asked outcome.Created is = (_, refl)
-success close asked outcome.Replaced is = (_, refl)
-success close asked outcome.Deleted is = (_, refl)
-success close asked outcome.BadTarget is = absurd (false≢true is)
-success close asked outcome.Taken is = absurd (false≢true is)
-success close asked outcome.Absent is = absurd (false≢true is)
-success close asked outcome.Exists is = absurd (false≢true is)
-success close asked outcome.Full is = absurd (false≢true is)
-success close asked outcome.Shown is = absurd (false≢true is)
-success close asked outcome.Unchanged is = absurd (false≢true is)
+success close asked decision.Created is = (_, refl)
+success close asked decision.Replaced is = (_, refl)
+success close asked decision.Deleted is = (_, refl)
+success close asked decision.BadTarget is = absurd (false≢true is)
+success close asked decision.Taken is = absurd (false≢true is)
+success close asked decision.Absent is = absurd (false≢true is)
+success close asked decision.Exists is = absurd (false≢true is)
+success close asked decision.Full is = absurd (false≢true is)
+success close asked decision.Retrieved is = absurd (false≢true is)
+success close asked decision.Unchanged is = absurd (false≢true is)
 
 pub failure : (close : Bool) → (rest : List ℕ) × (unavailable close ≡ codes "HTTP/1.1 5" ++ rest)
 unfolding status_line
@@ -80,44 +80,44 @@ failure close = (_, refl)
 -- ---- both
 
 -- what is accepted is the reply and the entry of an accepted outcome
-pub record Accepts (time : ℕ) (caller : Caller) (close : Bool) (asked : RestRequest) (outcome : RestOutcome) (reply : List ℕ) (e : Entry) : Type 0 where
-  pub accepted : is_accepted outcome ≡ true
-  pub reply_is : outcome_reply close asked outcome ≡ reply
+pub record Accepts (time : ℕ) (caller : Caller) (close : Bool) (asked : RestRequest) (decision : RestDecision) (reply : List ℕ) (e : Entry) : Type 0 where
+  pub accepted : is_accepted decision ≡ true
+  pub reply_is : decision_reply close asked decision ≡ reply
   pub entry_is : entry_of time caller asked ≡ Some e
 
 shown_is_none : (close : Bool) (asked : RestRequest) (shown : Option RestBody) (reply : List ℕ) (e : Entry) → ¬ (showing close asked shown ≡ answer.Accept reply e)
 shown_is_none close asked None reply e is = cc is
 shown_is_none close asked (Some body) reply e is = cc is
 
-told_is_none : (close : Bool) (asked : RestRequest) (shown : Option RestBody) (outcome : RestOutcome) (reply : List ℕ) (e : Entry) → ¬ (telling close asked shown outcome ≡ answer.Accept reply e)
-told_is_none close asked shown outcome.Shown reply e is = shown_is_none close asked shown reply e is
-told_is_none close asked shown outcome.Created reply e is = cc is
-told_is_none close asked shown outcome.Replaced reply e is = cc is
-told_is_none close asked shown outcome.Deleted reply e is = cc is
-told_is_none close asked shown outcome.BadTarget reply e is = cc is
-told_is_none close asked shown outcome.Taken reply e is = cc is
-told_is_none close asked shown outcome.Absent reply e is = cc is
-told_is_none close asked shown outcome.Exists reply e is = cc is
-told_is_none close asked shown outcome.Full reply e is = cc is
-told_is_none close asked shown outcome.Unchanged reply e is = cc is
+told_is_none : (close : Bool) (asked : RestRequest) (shown : Option RestBody) (decision : RestDecision) (reply : List ℕ) (e : Entry) → ¬ (telling close asked shown decision ≡ answer.Accept reply e)
+told_is_none close asked shown decision.Retrieved reply e is = shown_is_none close asked shown reply e is
+told_is_none close asked shown decision.Created reply e is = cc is
+told_is_none close asked shown decision.Replaced reply e is = cc is
+told_is_none close asked shown decision.Deleted reply e is = cc is
+told_is_none close asked shown decision.BadTarget reply e is = cc is
+told_is_none close asked shown decision.Taken reply e is = cc is
+told_is_none close asked shown decision.Absent reply e is = cc is
+told_is_none close asked shown decision.Exists reply e is = cc is
+told_is_none close asked shown decision.Full reply e is = cc is
+told_is_none close asked shown decision.Unchanged reply e is = cc is
 
 changed_is : (made : List ℕ) (found : Option Entry) (reply : List ℕ) (e : Entry) → changing made found ≡ answer.Accept reply e → (made ≡ reply) × (found ≡ Some e)
 changed_is made None reply e is = absurd (cc is)
 changed_is made (Some x) reply e is = (cc is, ap Some (cc is))
 
-accepts_by : (known : Known) (caller : Caller) (close : Bool) (asked : RestRequest) (outcome : RestOutcome) (b : Bool) (reply : List ℕ) (e : Entry) → is_accepted outcome ≡ b
-    → cond b (changing (outcome_reply close asked outcome) (entry_of known.time caller asked)) (telling close asked (body_of asked known.aliases known.acls) outcome) ≡ answer.Accept reply e
-    → Accepts known.time caller close asked outcome reply e
-accepts_by known caller close asked outcome true reply e accepted is =
-    let both = changed_is (outcome_reply close asked outcome) (entry_of known.time caller asked) reply e is in
+accepts_by : (known : Known) (caller : Caller) (close : Bool) (asked : RestRequest) (decision : RestDecision) (b : Bool) (reply : List ℕ) (e : Entry) → is_accepted decision ≡ b
+    → cond b (changing (decision_reply close asked decision) (entry_of known.time caller asked)) (telling close asked (body_of asked known.aliases known.acls) decision) ≡ answer.Accept reply e
+    → Accepts known.time caller close asked decision reply e
+accepts_by known caller close asked decision true reply e accepted is =
+    let both = changed_is (decision_reply close asked decision) (entry_of known.time caller asked) reply e is in
     record { accepted = accepted; reply_is = both.0; entry_is = both.1 }
-accepts_by known caller close asked outcome false reply e accepted is = absurd (told_is_none close asked (body_of asked known.aliases known.acls) outcome reply e is)
+accepts_by known caller close asked decision false reply e accepted is = absurd (told_is_none close asked (body_of asked known.aliases known.acls) decision reply e is)
 
 pub accepts : (known : Known) (caller : Caller) (close : Bool) (asked : RestRequest) (reply : List ℕ) (e : Entry) → rest_answer known caller close asked ≡ answer.Accept reply e
     → Accepts known.time caller close asked (judge (verb_of asked) (kind_of asked) known.facts) reply e
 accepts known caller close asked reply e is =
-    let outcome = judge (verb_of asked) (kind_of asked) known.facts in
-    accepts_by known caller close asked outcome (is_accepted outcome) reply e refl is
+    let decision = judge (verb_of asked) (kind_of asked) known.facts in
+    accepts_by known caller close asked decision (is_accepted decision) reply e refl is
 
 pub accepted_succeeds : (known : Known) (caller : Caller) (close : Bool) (asked : RestRequest) (reply : List ℕ) (e : Entry) → rest_answer known caller close asked ≡ answer.Accept reply e → IsSuccess reply
 accepted_succeeds known caller close asked reply e is =

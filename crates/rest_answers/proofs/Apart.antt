@@ -306,17 +306,17 @@ pub turn_alike : (settings : SettingsValue) (conn t : ℕ) (one other : List Ent
     → HttpTurn settings conn t one lines sends after behind → caller_of settings conn lines ≡ Some caller → alone caller.domain one ≡ alone caller.domain other
     → (extra : List Entry) × (after ≡ one ++ extra) × (alone caller.domain extra ≡ extra) × HttpTurn settings conn t other lines sends (other ++ extra) behind
 turn_alike settings conn t one other lines sends after behind caller x asks same =
-    let stands = subst (λ (c : Caller). IsFront settings t one c x.line.held x.front) (one_there x.caller caller (sym x.asks ∙ asks)) x.stands in (
+    let stands = subst (λ (c : Caller). IsFront settings t one c x.line.buffered x.front) (one_there x.caller caller (sym x.asks ∙ asks)) x.stands in (
       entries_of x.front,
       x.history_is,
-      own_entries settings t one caller x.line.held x.front stands,
+      own_entries settings t one caller x.line.buffered x.front stands,
       record {
         caller = caller;
         asks = asks;
         line = x.line;
         there = x.there;
         front = x.front;
-        stands = stands_alike settings t one other caller same x.line.held x.front stands;
+        stands = stands_alike settings t one other caller same x.line.buffered x.front stands;
         due = x.due;
         sends_are = x.sends_are;
         history_is = refl;

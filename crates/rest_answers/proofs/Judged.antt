@@ -6,15 +6,15 @@ use Rattle.rest_judging.specs.declared.asking.RestVerb.TheVariants as verb
 use Rattle.rest_judging.specs.declared.asking.RestKind.{RestKind}
 use Rattle.rest_judging.specs.declared.asking.RestKind.TheVariants as kind
 use Rattle.rest_judging.specs.declared.facts.RestFacts.{RestFacts}
-use Rattle.rest_judging.specs.declared.outcome.RestOutcome.{RestOutcome}
-use Rattle.rest_judging.specs.declared.outcome.RestOutcome.TheVariants.{BadTarget, Taken, Absent, Exists, Full, Unchanged, Created, Replaced}
-use Rattle.rest_judging.specs.Outcomes.{is_accepted}
+use Rattle.rest_judging.specs.declared.decision.RestDecision.{RestDecision}
+use Rattle.rest_judging.specs.declared.decision.RestDecision.TheVariants.{BadTarget, Taken, Absent, Exists, Full, Unchanged, Created, Replaced}
+use Rattle.rest_judging.specs.Decisions.{is_accepted}
 use Rattle.rest_judging.specs.Judging.{of_resource, judge}
 
-unfaulted : (fault taken : Bool) (outcome : RestOutcome) → is_accepted (cond fault BadTarget (cond taken Taken outcome)) ≡ true → (fault ≡ false) × (is_accepted outcome ≡ true)
-unfaulted true taken outcome is = absurd (false≢true is)
-unfaulted false true outcome is = absurd (false≢true is)
-unfaulted false false outcome is = (refl, is)
+unfaulted : (fault taken : Bool) (decision : RestDecision) → is_accepted (cond fault BadTarget (cond taken Taken decision)) ≡ true → (fault ≡ false) × (is_accepted decision ≡ true)
+unfaulted true taken decision is = absurd (false≢true is)
+unfaulted false true decision is = absurd (false≢true is)
+unfaulted false false decision is = (refl, is)
 
 -- it may be asked for, and the resource is one for which it is accepted
 pub judged_clear : (asked : RestVerb) (about : RestKind) (facts : RestFacts) → is_accepted (judge asked about facts) ≡ true
@@ -39,9 +39,9 @@ put_one : (there full : Bool) → is_accepted (cond there Replaced (cond full Fu
 put_one true full is = inl refl
 put_one false full is = inr (room_made full is)
 
-registered_one : (registered : Bool) (outcome : RestOutcome) → is_accepted (cond registered outcome Absent) ≡ true → (registered ≡ true) × (is_accepted outcome ≡ true)
-registered_one true outcome is = (refl, is)
-registered_one false outcome is = absurd (false≢true is)
+registered_one : (registered : Bool) (decision : RestDecision) → is_accepted (cond registered decision Absent) ≡ true → (registered ≡ true) × (is_accepted decision ≡ true)
+registered_one true decision is = (refl, is)
+registered_one false decision is = absurd (false≢true is)
 
 -- a client that registers isn't registered, and its domain has room for one more
 pub new_by_put : (facts : RestFacts) → is_accepted (judge verb.Put kind.Client facts) ≡ true → (facts.there ≡ false) × (facts.full ≡ false)

@@ -26,7 +26,7 @@ use Rattle.data_channel.specs.declared.request.RestRequest.{RestRequest}
 use Rattle.data_channel.specs.declared.request.RestRequest.TheVariants as request
 use Rattle.data_channel.specs.Within.{IsWithin}
 use Rattle.rest_judging.specs.Asking.{verb_of, kind_of, cuid_of}
-use Rattle.rest_judging.specs.Outcomes.{is_accepted}
+use Rattle.rest_judging.specs.Decisions.{is_accepted}
 use Rattle.rest_judging.specs.Judging.{judge}
 use Rattle.rest_answers.specs.declared.answer.RestAnswer.TheVariants as answer
 use Rattle.rest_answers.specs.declared.caller.Caller.{Caller}

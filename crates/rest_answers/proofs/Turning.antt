@@ -10,13 +10,13 @@ use Rattle.dots_settings.specs.Lookups.{role_of}
 use Rattle.dots_laws.specs.Calm.{may_act}
 use Rattle.dots_history.specs.declared.entry.Entry.{Entry}
 use Rattle.stream_table.specs.Lines.{Line, PeerLines, AreOf, line_of}
-use Rattle.stream_table.specs.Places.{AreApart, held_by, with_more}
+use Rattle.stream_table.specs.Places.{AreApart, buffered_by, with_more}
 use Rattle.stream_table.proofs.Clients.{connection_is_of_client}
 use Rattle.stream_table.proofs.Holding.{line_holds, same_peer, forgotten_holding, holding_forgotten, swapped}
 use Rattle.httparse.proofs.GrammarLemmas.{request_unique}
 use Rattle.http_cut.specs.declared.fault.HttpFault.{HttpFault}
 use Rattle.http_cut.specs.declared.fault.HttpFault.TheVariants.{BadHead}
-use Rattle.http_cut.specs.Requests.{Request, Outcome, takes, waits, refuses, IsCut, outcome_behind, head_of}
+use Rattle.http_cut.specs.Requests.{Request, CutValue, takes, waits, refuses, IsCut, cut_value_behind, head_of}
 use Rattle.http_cut.specs.Streams.{IsFirst, IsOpen}
 use Rattle.http_cut.proofs.Streams.{first_size, first_append, refused_still}
 use Rattle.data_channel.specs.declared.reject.RestReject.{RestReject}
@@ -37,30 +37,30 @@ one_there x y same = cc
 
 -- ---- what is cut is one
 
-abbrev kind : Outcome → ℕ
+abbrev kind : CutValue → ℕ
 kind (takes request) = 0
 kind waits = 1
 kind (refuses fault) = 2
 
-abbrev taken : Request → Outcome → Request
+abbrev taken : Request → CutValue → Request
 taken instead (takes request) = request
 taken instead waits = instead
 taken instead (refuses fault) = instead
 
-abbrev fault_of : Outcome → HttpFault
+abbrev fault_of : CutValue → HttpFault
 fault_of (takes request) = BadHead
 fault_of waits = BadHead
 fault_of (refuses fault) = fault
 
 -- two outcomes of the same bytes: they are one, or no head can come, and the one is refused where the other waits
-abbrev AreOneCut : List ℕ → Outcome → Outcome → Type 0
+abbrev AreOneCut : List ℕ → CutValue → CutValue → Type 0
 AreOneCut held one other =
     (one ≡ other) ⊎ (IsOpen held × (((one ≡ waits) × (other ≡ refuses BadHead)) ⊎ ((one ≡ refuses BadHead) × (other ≡ waits))))
 
-one_cut : (held : List ℕ) (one other : Outcome) → IsCut held one → IsCut held other → AreOneCut held one other
+one_cut : (held : List ℕ) (one other : CutValue) → IsCut held one → IsCut held other → AreOneCut held one other
 one_cut held one other (inl x) (inl y) =
     let same = request_unique held x.0 y.0 x.1 y.1 x.2.reads y.2.reads in
-    inl (x.3 ∙ (λ i. outcome_behind (head_of (same.0 i)) (same.1 i)) ∙ sym y.3)
+    inl (x.3 ∙ (λ i. cut_value_behind (head_of (same.0 i)) (same.1 i)) ∙ sym y.3)
 one_cut held one other (inl x) (inr y) = absurd (y.0 x.0 x.1 x.2)
 one_cut held one other (inr x) (inl y) = absurd (x.0 y.0 y.1 y.2)
 one_cut held (takes r) other (inr x) (inr y) = absurd x.1
@@ -78,7 +78,7 @@ one_cut held (refuses f) waits (inr x) (inr y) = elim x.1.1 [
 one_cut held (refuses f) (refuses g) (inr x) (inr y) = inl (ap refuses (x.1.0 ∙ sym y.1.0))
 
 -- one of them is a request, so they are one
-same_request : (held : List ℕ) (r : Request) (other : Outcome) → IsCut held (takes r) → IsCut held other → takes r ≡ other
+same_request : (held : List ℕ) (r : Request) (other : CutValue) → IsCut held (takes r) → IsCut held other → takes r ≡ other
 same_request held r other x y = elim (one_cut held (takes r) other x y) [
   | inl same ↦ same
   | inr early ↦ elim early.1 [
@@ -257,16 +257,16 @@ module _ (settings : SettingsValue) (conn t : ℕ) (history : List Entry) (lines
 
   -- the front of a turn, of the caller and over the bytes of another
   stands_for : (caller : Caller) (line : Line) (own : Caller) (there : Line) (at : RestFront) → own ≡ caller → there ≡ line
-      → IsFront settings t history own there.held at → IsFront settings t history caller line.held at
+      → IsFront settings t history own there.held at → IsFront settings t history caller line.buffered at
   stands_for caller line own there at same_caller same_line x =
-      subst (λ (c : Caller). IsFront settings t history c line.held at) same_caller (subst (λ (l : Line). IsFront settings t history own l.held at) same_line x)
+      subst (λ (c : Caller). IsFront settings t history c line.buffered at) same_caller (subst (λ (l : Line). IsFront settings t history own l.held at) same_line x)
 
   pub first_send_fixes : (out : OwnedOut) (rest rest' : List OwnedOut) (after after' : List Entry) (behind behind' : List PeerLines)
       → HttpTurn settings conn t history lines (out ∷ rest) after behind → HttpTurn settings conn t history lines (out ∷ rest') after' behind'
       → (rest ≡ rest') × (after ≡ after') × (behind ≡ behind')
   first_send_fixes out rest rest' after after' behind behind' x y =
       let there = stands_for x.caller x.line y.caller y.line y.front (one_there y.caller x.caller (sym y.asks ∙ x.asks)) (one_there y.line x.line (sym y.there ∙ x.there)) y.stands in
-      let same = by_fronts x.caller x.line.held x.front y.front x.stands there x.due y.due out rest rest' x.sends_are y.sends_are in
+      let same = by_fronts x.caller x.line.buffered x.front y.front x.stands there x.due y.due out rest rest' x.sends_are y.sends_are in
       (same.0, x.history_is ∙ ap (λ (es : List Entry). history ++ es) same.1 ∙ sym y.history_is, x.lines_are ∙ same.2 ∙ sym y.lines_are)
 
   -- ---- it begins on the connection
@@ -295,11 +295,11 @@ module _ (settings : SettingsValue) (conn t : ℕ) (history : List Entry) (lines
       → caller_of settings conn lines ≡ Some caller → AddsOne t caller history after
   adds_one sends after behind caller x asks =
       let same : x.caller ≡ caller = one_there x.caller caller (sym x.asks ∙ asks) in
-      subst (λ (c : Caller). AddsOne t c history after) same (added_by x.caller x.line.held x.front after x.stands x.history_is)
+      subst (λ (c : Caller). AddsOne t c history after) same (added_by x.caller x.line.buffered x.front after x.stands x.history_is)
 
   -- ---- bytes that follow
 
-  behind_with : (more : List ℕ) (line : Line) (at : RestFront) → AreApart lines → line_of conn lines ≡ Some line → HasSize line.held at
+  behind_with : (more : List ℕ) (line : Line) (at : RestFront) → AreApart lines → line_of conn lines ≡ Some line → HasSize line.buffered at
       → with_piece conn more (lines_behind conn at lines) ≡ lines_behind conn at (with_piece conn more lines)
   behind_with more line fronts.Waits apart there has = refl
   behind_with more line (fronts.Refused fault) apart there has = holding_forgotten conn (with_more more) lines ∙ sym (forgotten_holding conn (with_more more) lines)
@@ -311,16 +311,16 @@ module _ (settings : SettingsValue) (conn t : ℕ) (history : List Entry) (lines
   turn_stays more sends after behind apart x = record {
     caller = x.caller;
     asks = ap (option_and_then (caller_by settings)) (same_peer conn (with_more more) lines) ∙ x.asks;
-    line = held_by (with_more more) x.line;
+    line = buffered_by (with_more more) x.line;
     there = line_holds conn (with_more more) lines x.line x.there;
     front = x.front;
-    stands = front_stays settings t history x.caller x.line.held more x.front x.stands x.due;
+    stands = front_stays settings t history x.caller x.line.buffered more x.front x.stands x.due;
     due = x.due;
     sends_are = x.sends_are;
     history_is = x.history_is;
     lines_are =
         ap (with_piece conn more) x.lines_are
-        ∙ behind_with more x.line x.front apart x.there (front_has_size settings t history x.caller x.line.held x.front x.stands);
+        ∙ behind_with more x.line x.front apart x.there (front_has_size settings t history x.caller x.line.buffered x.front x.stands);
   }
 
 -- ---- who asks

@@ -16,17 +16,17 @@ use Rattle.data_channel.specs.declared.request.RestRequest.{RestRequest}
 use Rattle.data_channel.specs.declared.request.RestRequest.TheVariants as request
 use Rattle.data_channel.specs.Replies.{body_data}
 use Rattle.data_channel.specs.Rest.{Rest}
-use Rattle.rest_judging.specs.declared.outcome.RestOutcome.{RestOutcome}
-use Rattle.rest_judging.specs.declared.outcome.RestOutcome.TheVariants.{Shown, Absent}
+use Rattle.rest_judging.specs.declared.decision.RestDecision.{RestDecision}
+use Rattle.rest_judging.specs.declared.decision.RestDecision.TheVariants.{Retrieved, Absent}
 use Rattle.rest_judging.specs.Asking.{verb_of, kind_of, cuid_of}
-use Rattle.rest_judging.specs.Outcomes.{is_accepted}
+use Rattle.rest_judging.specs.Decisions.{is_accepted}
 use Rattle.rest_judging.specs.Judging.{judge}
 use Rattle.rest_answers.specs.declared.answer.RestAnswer.TheVariants as answer
 use Rattle.rest_answers.specs.declared.caller.Caller.{Caller}
 use Rattle.rest_answers.specs.Answer.{RestAnswer}
 use Rattle.rest_answers.specs.Known.{Known, known_of}
 use Rattle.rest_answers.specs.Changes.{entry_of}
-use Rattle.rest_answers.specs.Replies.{content_reply, outcome_reply, rejection, unavailable}
+use Rattle.rest_answers.specs.Replies.{content_reply, decision_reply, rejection, unavailable}
 
 -- what a GET shows: the client with all that it has, one of its aliases or access lists, or all of a kind
 abbrev pub body_of : RestRequest → List Alias → List Acl → Option RestBody
@@ -39,7 +39,7 @@ body_of _ aliases acls = None
 
 -- it is shown where it is there
 abbrev pub showing : Bool → RestRequest → Option RestBody → RestAnswer
-showing close asked None = answer.Reply (outcome_reply close asked Absent)
+showing close asked None = answer.Reply (decision_reply close asked Absent)
 showing close asked (Some shown) = answer.LongReply (content_reply close (compact_text (body_data shown)))
 
 -- a change is accepted with this reply
@@ -48,19 +48,19 @@ changing reply None = answer.Reply reply
 changing reply (Some entry) = answer.Accept reply entry
 
 -- what isn't accepted changes nothing
-abbrev pub telling : Bool → RestRequest → Option RestBody → RestOutcome → RestAnswer
-telling close asked shown Shown = showing close asked shown
-telling close asked shown outcome = answer.Reply (outcome_reply close asked outcome)
+abbrev pub telling : Bool → RestRequest → Option RestBody → RestDecision → RestAnswer
+telling close asked shown Retrieved = showing close asked shown
+telling close asked shown decision = answer.Reply (decision_reply close asked decision)
 
-abbrev pub by_outcome : Known → Caller → Bool → RestRequest → RestOutcome → RestAnswer
-by_outcome known caller close asked outcome =
-    if is_accepted outcome
-    then changing (outcome_reply close asked outcome) (entry_of known.time caller asked)
-    else telling close asked (body_of asked known.aliases known.acls) outcome
+abbrev pub by_decision : Known → Caller → Bool → RestRequest → RestDecision → RestAnswer
+by_decision known caller close asked decision =
+    if is_accepted decision
+    then changing (decision_reply close asked decision) (entry_of known.time caller asked)
+    else telling close asked (body_of asked known.aliases known.acls) decision
 
 -- **what is answered to a request**, and whether the connection is closed behind it
 abbrev pub rest_answer : Known → Caller → Bool → RestRequest → RestAnswer
-rest_answer known caller close asked = by_outcome known caller close asked (judge (verb_of asked) (kind_of asked) known.facts)
+rest_answer known caller close asked = by_decision known caller close asked (judge (verb_of asked) (kind_of asked) known.facts)
 
 -- **what is answered to a message by a history at time t**: to what it asks, or to why it asks nothing
 abbrev pub answer_to : SettingsValue → ℕ → List Entry → Caller → Bool → Result RestRequest RestReject → RestAnswer

@@ -11,10 +11,10 @@ use Rattle.data_channel.specs.Heads.{allow_text}
 use Rattle.data_channel.specs.Replies.{location_in}
 use Rattle.rest_judging.specs.declared.asking.RestVerb.{RestVerb}
 use Rattle.rest_judging.specs.declared.asking.RestVerb.TheVariants.{Post}
-use Rattle.rest_judging.specs.declared.outcome.RestOutcome.{RestOutcome}
-use Rattle.rest_judging.specs.declared.outcome.RestOutcome.TheVariants.{Created}
+use Rattle.rest_judging.specs.declared.decision.RestDecision.{RestDecision}
+use Rattle.rest_judging.specs.declared.decision.RestDecision.TheVariants.{Created}
 use Rattle.rest_judging.specs.Asking.{verb_of}
-use Rattle.rest_judging.specs.Outcomes.{status_of, status_of_reject}
+use Rattle.rest_judging.specs.Decisions.{status_of, status_of_reject}
 
 -- The head: the status, whether the connection is closed behind the reply, where a resource is, which methods it has, whether the body is
 -- YANG data in JSON, and how many bytes it has, which 204 doesn't say.
@@ -43,13 +43,13 @@ abbrev pub content_reply : Bool → List ℕ → List ℕ
 content_reply close text = head_of 200 close [] [] true (length text) ++ text
 
 -- where what a POST created is (RFC 8040, section 4.4.1); no other reply says it
-abbrev pub located : RestVerb → RestOutcome → List ℕ → List ℕ
+abbrev pub located : RestVerb → RestDecision → List ℕ → List ℕ
 located Post Created location = location
 located _ _ location = []
 
 -- the reply to a request on which this is decided
-abbrev pub outcome_reply : Bool → RestRequest → RestOutcome → List ℕ
-outcome_reply close asked outcome = bodiless (status_of outcome) close (located (verb_of asked) outcome (location_in asked)) []
+abbrev pub decision_reply : Bool → RestRequest → RestDecision → List ℕ
+decision_reply close asked decision = bodiless (status_of decision) close (located (verb_of asked) decision (location_in asked)) []
 
 -- the methods of a resource that doesn't have the one of the request (RFC 9110, section 15.5.6)
 abbrev pub methods_in : Option Allow → List ℕ

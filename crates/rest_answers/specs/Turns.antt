@@ -7,7 +7,7 @@ use Rattle.dots_settings.specs.declared.peer.Role.TheVariants as role
 use Rattle.dots_settings.specs.Settings.{SettingsValue}
 use Rattle.dots_settings.specs.Lookups.{role_of}
 use Rattle.dots_history.specs.declared.entry.Entry.{Entry}
-use Rattle.stream_table.specs.Lines.{Line, PeerLines, line_of, peer_of, forgotten, holding}
+use Rattle.stream_table.specs.Lines.{Line, PeerLines, line_of, peer_of, forgotten, buffering}
 use Rattle.stream_table.specs.Places.{with_more}
 use Rattle.http_cut.specs.declared.fault.HttpFault.TheVariants.{BadHead}
 use Rattle.http_cut.specs.Requests.{Request, takes, waits, refuses, IsCut}
@@ -92,7 +92,7 @@ entries_of (fronts.Answered size close answered) = entries_in answered
 abbrev pub lines_behind : ℕ → RestFront → List PeerLines → List PeerLines
 lines_behind conn fronts.Waits lines = lines
 lines_behind conn (fronts.Refused fault) lines = forgotten conn lines
-lines_behind conn (fronts.Answered size close answered) lines = if close then forgotten conn lines else holding conn (drop size) lines
+lines_behind conn (fronts.Answered size close answered) lines = if close then forgotten conn lines else buffering conn (drop size) lines
 
 -- **one turn of a connection at time t**: a request or a refusal stands at its front, which is answered. Where more is waited for there is none.
 pub record HttpTurn (settings : SettingsValue) (conn t : ℕ) (history : List Entry) (lines : List PeerLines) (sends : List OwnedOut) (after : List Entry) (behind : List PeerLines) : Type 0 where
@@ -101,7 +101,7 @@ pub record HttpTurn (settings : SettingsValue) (conn t : ℕ) (history : List En
   pub line : Line
   pub there : line_of conn lines ≡ Some line
   pub front : RestFront
-  pub stands : IsFront settings t history caller line.held front
+  pub stands : IsFront settings t history caller line.buffered front
   pub due : is_waiting front ≡ false
   pub sends_are : sends ≡ sends_of conn front
   pub history_is : after ≡ history ++ entries_of front
@@ -112,11 +112,11 @@ pub record HttpTurn (settings : SettingsValue) (conn t : ℕ) (history : List En
 -- Its bytes are held behind those that were. Of a connection that waits fewer than 16,384 are held; here there may be more, until all turns of the
 -- piece are over.
 abbrev pub with_piece : ℕ → List ℕ → List PeerLines → List PeerLines
-with_piece conn piece lines = holding conn (with_more piece) lines
+with_piece conn piece lines = buffering conn (with_more piece) lines
 
 -- no turn is left: the connection is gone, or more is waited for
 abbrev pub Rests : ℕ → List PeerLines → Type 0
-Rests conn lines = MatchOption (line_of conn lines) ⊤ (λ line. IsCut line.held waits)
+Rests conn lines = MatchOption (line_of conn lines) ⊤ (λ line. IsCut line.buffered waits)
 
 -- what a turn adds to a history: nothing, or one entry of this caller at that time
 abbrev pub AddsOne : ℕ → Caller → List Entry → List Entry → Type 0

@@ -22,5 +22,5 @@ pub use caller::Caller;
 pub use changes::{change_of, entry_of};
 pub use faults::is_faulty;
 pub use front::RestFront;
-pub use replies::{content_reply, outcome_reply, refusal, rejection, unavailable};
+pub use replies::{content_reply, decision_reply, refusal, rejection, unavailable};
 pub use reply::RestReply;

@@ -1,7 +1,7 @@
 //! The replies.
 
 ghost use Rattle.std.specs.Prelude.{◌≡◌, IfOk};
-ghost use Rattle.rest_answers.specs.Replies.{outcome_reply, content_reply, rejection, refusal, unavailable, status_of_fault};
+ghost use Rattle.rest_answers.specs.Replies.{decision_reply, content_reply, rejection, refusal, unavailable, status_of_fault};
 ghost use Rattle.http_cut.specs.Reply.{is_reply_status};
 ghost use Rattle.std.specs.Prelude.{IsTrue};
 
@@ -9,24 +9,24 @@ use crate::reply::RestReply;
 use data_channel::{RestReject, RestRequest, location_of};
 use dots_lists::{Bytes, NoMemory};
 use http_cut::{HttpFault, ReplyHead, write_head};
-use rest_judging::{RestOutcome, RestVerb, status_of_reject, verb_of};
+use rest_judging::{RestDecision, RestVerb, status_of_reject, verb_of};
 use std::alloc::Global;
 
 /// The reply to a request on which this is decided, which isn't shown.
-pub fn outcome_reply(
+pub fn decision_reply(
     alloc: Global,
     close: bool,
     request: &RestRequest,
-    outcome: RestOutcome,
+    decision: RestDecision,
 ) -> Result<RestReply, NoMemory>
-    ensures { IfOk result (λ reply. reply ≡ outcome_reply close request.now outcome) }
+    ensures { IfOk result (λ reply. reply ≡ decision_reply close request.now decision) }
 {
-    match (outcome, verb_of(request)) {
-        (RestOutcome::Created, RestVerb::Post) => {
+    match (decision, verb_of(request)) {
+        (RestDecision::Created, RestVerb::Post) => {
             let location = location_of(alloc, request)?;
-            Ok(RestReply::located(outcome.status(), close, location))
+            Ok(RestReply::located(decision.status(), close, location))
         }
-        _ => Ok(RestReply::new(alloc, outcome.status(), close)),
+        _ => Ok(RestReply::new(alloc, decision.status(), close)),
     }
 }
 

@@ -1,3 +1,3 @@
 pub mod Asking
-pub mod Outcomes
+pub mod Decisions
 pub mod Judging

@@ -5,63 +5,63 @@ ghost use Rattle.rest_judging.specs.Judging.{made, of_client, of_one, of_resourc
 
 use crate::asking::{RestKind, RestVerb};
 use crate::facts::RestFacts;
-use crate::outcome::RestOutcome;
+use crate::decision::RestDecision;
 
 /// What is decided on a request of this verb and kind, by what is known.
-pub fn judge(verb: RestVerb, kind: RestKind, facts: RestFacts) -> RestOutcome
+pub fn judge(verb: RestVerb, kind: RestKind, facts: RestFacts) -> RestDecision
     ensures { result ≡ judge verb kind facts }
 {
     if facts.fault {
-        return RestOutcome::BadTarget;
+        return RestDecision::BadTarget;
     }
     if facts.taken {
-        return RestOutcome::Taken;
+        return RestDecision::Taken;
     }
     judge_resource(verb, kind, facts)
 }
 
 /// The same, where nothing is wrong with what is asked for or with who asks.
-fn judge_resource(verb: RestVerb, kind: RestKind, facts: RestFacts) -> RestOutcome
+fn judge_resource(verb: RestVerb, kind: RestKind, facts: RestFacts) -> RestDecision
     ensures { result ≡ of_resource verb kind facts }
 {
     match kind {
         RestKind::Client => judge_client(verb, facts),
-        _ if !facts.registered => RestOutcome::Absent,
+        _ if !facts.registered => RestDecision::Absent,
         RestKind::Alias | RestKind::Acl => judge_one(verb, facts),
-        RestKind::Aliases | RestKind::Acls => RestOutcome::Shown,
+        RestKind::Aliases | RestKind::Acls => RestDecision::Retrieved,
     }
 }
 
 /// The client itself.
-fn judge_client(verb: RestVerb, facts: RestFacts) -> RestOutcome
+fn judge_client(verb: RestVerb, facts: RestFacts) -> RestDecision
     ensures { result ≡ of_client verb facts }
 {
     match verb {
-        RestVerb::Put if facts.there => RestOutcome::Unchanged,
+        RestVerb::Put if facts.there => RestDecision::Unchanged,
         _ => judge_one(verb, facts),
     }
 }
 
 /// One resource.
-fn judge_one(verb: RestVerb, facts: RestFacts) -> RestOutcome
+fn judge_one(verb: RestVerb, facts: RestFacts) -> RestDecision
     ensures { result ≡ of_one verb facts }
 {
     match (verb, facts.there) {
-        (RestVerb::Get, true) => RestOutcome::Shown,
-        (RestVerb::Delete, true) => RestOutcome::Deleted,
-        (RestVerb::Get | RestVerb::Delete, false) => RestOutcome::Absent,
-        (RestVerb::Put, true) => RestOutcome::Replaced,
-        (RestVerb::Post, true) => RestOutcome::Exists,
+        (RestVerb::Get, true) => RestDecision::Retrieved,
+        (RestVerb::Delete, true) => RestDecision::Deleted,
+        (RestVerb::Get | RestVerb::Delete, false) => RestDecision::Absent,
+        (RestVerb::Put, true) => RestDecision::Replaced,
+        (RestVerb::Post, true) => RestDecision::Exists,
         (RestVerb::Put | RestVerb::Post, false) => create(facts),
     }
 }
 
 /// What isn't there is created, where there is room.
-fn create(facts: RestFacts) -> RestOutcome
+fn create(facts: RestFacts) -> RestDecision
     ensures { result ≡ made facts }
 {
     if facts.full {
-        return RestOutcome::Full;
+        return RestDecision::Full;
     }
-    RestOutcome::Created
+    RestDecision::Created
 }

@@ -13,7 +13,7 @@ use Rattle.entry_records.specs.Layout.{record_bytes}
 use Rattle.entry_records.specs.Records.{IsRecord}
 use Rattle.entry_records.proofs.Places.{one_entry}
 use Rattle.slot_store.specs.declared.fault.OpenFault.TheVariants as opening
-use Rattle.slot_store.specs.Layout.{place_of, IsHeader, IsSlot, IsHalf, IsBlank, IsJournal, HoldsRecords, header_of}
+use Rattle.slot_store.specs.Layout.{place_of, IsHeader, IsSlot, IsHalf, IsBlank, IsJournal, HasRecords, header_of}
 use Rattle.slot_store.specs.StoreValues.{JournalValue}
 use Rattle.slot_store.specs.Refusing.{RefusesDisk, IsOtherHeader, IsStrayGate, IsOfOthers, FirstWrong, front, rest, size}
 use Rattle.slot_store.proofs.Steps.{Images, image_at_rest, rests_as}
@@ -21,10 +21,10 @@ use Rattle.slot_store.proofs.SameRecords.{gate_of_header, one_list}
 use Rattle.slot_journal.specs.declared.fault.JournalFault.{JournalFault}
 use Rattle.slot_journal.specs.declared.fault.JournalFault.TheVariants as fault
 use Rattle.slot_journal.specs.Sizes.{slots_of}
-use Rattle.slot_journal.specs.DiskEntries.{HasRecord, Holds, HoldsEither, Represents, records_of}
+use Rattle.slot_journal.specs.DiskEntries.{HasRecord, HasEntries, HasEither, Represents, records_of}
 use Rattle.slot_journal.specs.Left.{IsLeftOf, IsLeft}
-use Rattle.slot_journal.proofs.Writing.{holds}
-use Rattle.slot_journal.specs.Refused.{Refuses, IsRefusal, IsBadSlot, IsGap, HoldsFirst, IsStray}
+use Rattle.slot_journal.proofs.Writing.{image_has}
+use Rattle.slot_journal.specs.Refused.{Refuses, IsRefusal, IsBadSlot, IsGap, HasFirst, IsStray}
 
 -- ---- an image at a moment
 
@@ -97,7 +97,7 @@ bad_refused slots half image entries at is each bad = elim (cases_lt (length bad
       let few = under in
       let low : length bad.before < length entries = omega (arith, few, length-map entries record_bytes) in
       let found = entry_of_slot entries (length bad.before) low each in
-      bad.stray (record_bytes found.0) found.0 (subst (λ place. IsSlot image place (record_bytes found.0)) (sym bad.there) (subst (IsSlot image (place_of slots half (length bad.before))) found.1 (is.held (length bad.before) under))) (record { typed = found.2.typed; within = found.2.within; is = refl })
+      bad.stray (record_bytes found.0) found.0 (subst (λ place. IsSlot image place (record_bytes found.0)) (sym bad.there) (subst (IsSlot image (place_of slots half (length bad.before))) found.1 (is.filled (length bad.before) under))) (record { typed = found.2.typed; within = found.2.within; is = refl })
   | inr over ↦ is.closed (length bad.before) (omega (arith, over)) bad.within (ap image (sym bad.there) ∙ bad.gate)
 ]
   where
@@ -111,49 +111,49 @@ gap_refused slots half image records at is gap = elim (cases_lt gap.slot (length
   | inl under ↦
       let behind = gap.behind in
       let low : length gap.before < length records = omega (arith, behind, under) in
-      gap.closed (length gap.before) (omega arith) behind (is.held (length gap.before) low).gate
+      gap.closed (length gap.before) (omega arith) behind (is.filled (length gap.before) low).gate
   | inr over ↦ is.closed gap.slot (omega (arith, over)) gap.within (ap image (sym gap.there) ∙ gap.gate)
 ]
 
-pub holds_not_refused : (settings : SettingsValue) (extent : ℕ) (image : ℕ → ℕ) (entries : List Entry) (why : JournalFault) → Holds settings image entries → Refuses settings extent image why → IsRefusal why → ⊥
-holds_not_refused settings extent image entries (fault.NotOurs at) holds refuses refusal = by_cases holds.records refuses
+pub has_not_refused : (settings : SettingsValue) (extent : ℕ) (image : ℕ → ℕ) (entries : List Entry) (why : JournalFault) → HasEntries settings image entries → Refuses settings extent image why → IsRefusal why → ⊥
+has_not_refused settings extent image entries (fault.NotOurs at) image_has refuses refusal = by_cases image_has.records refuses
   where
-    by_cases : HoldsRecords (slots_of settings) settings.digest image (records_of entries) → Refuses settings extent image (fault.NotOurs at) → ⊥
+    by_cases : HasRecords (slots_of settings) settings.digest image (records_of entries) → Refuses settings extent image (fault.NotOurs at) → ⊥
     by_cases (inl blank) (inl (inl gates)) = blank_refused (slots_of settings) image at (record { gate = blank.gate; gates = blank.gates; none = refl }) gates.1
     by_cases (inl blank) (inl (inr header)) = blank.gate header.0
     by_cases (inl blank) (inr half) = blank.gate (gate_of_header (slots_of settings) settings.digest image half.0)
     by_cases (inr journal) (inl (inl gates)) = gates.0 (gate_of_header (slots_of settings) settings.digest image journal.header)
     by_cases (inr journal) (inl (inr header)) = header_refused (slots_of settings) settings.digest image at journal.header header.1
-    by_cases (inr journal) (inr (header, inl bad)) = bad_refused (slots_of settings) (image 48 % 2) image entries at journal.half holds.each bad
+    by_cases (inr journal) (inr (header, inl bad)) = bad_refused (slots_of settings) (image 48 % 2) image entries at journal.half image_has.each bad
     by_cases (inr journal) (inr (header, inr gap)) = gap_refused (slots_of settings) (image 48 % 2) image (records_of entries) at journal.half gap
-holds_not_refused settings extent image entries (fault.SettingsChanged stored given) holds refuses refusal = by_cases holds.records
+has_not_refused settings extent image entries (fault.SettingsChanged stored given) image_has refuses refusal = by_cases image_has.records
   where
-    by_cases : HoldsRecords (slots_of settings) settings.digest image (records_of entries) → ⊥
+    by_cases : HasRecords (slots_of settings) settings.digest image (records_of entries) → ⊥
     by_cases (inl blank) = blank.gate refuses.0.0
     by_cases (inr journal) = fits_not (slots_of settings) settings.digest image 16 48 refuses.0.1.wrong.0 (omega arith) journal.header refuses.0.1.wrong.1
-holds_not_refused settings extent image entries (fault.TooSmall needed bytes) holds refuses refusal = absurd refusal
-holds_not_refused settings extent image entries fault.DiskFault holds refuses refusal = absurd refusal
-holds_not_refused settings extent image entries fault.NoMemory holds refuses refusal = absurd refusal
+has_not_refused settings extent image entries (fault.TooSmall needed bytes) image_has refuses refusal = absurd refusal
+has_not_refused settings extent image entries fault.DiskFault image_has refuses refusal = absurd refusal
+has_not_refused settings extent image entries fault.NoMemory image_has refuses refusal = absurd refusal
 
 -- ---- what is recovered after a crash
 
-represents_holds : (journal : JournalValue) (settings : SettingsValue) (entries : List Entry) (image : ℕ → ℕ) → Represents journal settings entries image → Holds settings image entries
-represents_holds journal settings entries image is = holds settings journal.slots image (records_of entries) entries is.slots (record { same = refl; each = is.each }) (inr is.represents.journal)
+represents_has : (journal : JournalValue) (settings : SettingsValue) (entries : List Entry) (image : ℕ → ℕ) → Represents journal settings entries image → HasEntries settings image entries
+represents_has journal settings entries image is = image_has settings journal.slots image (records_of entries) entries is.slots (record { same = refl; each = is.each }) (inr is.represents.journal)
 
-pub left_holds : (old new : Option Media) (journal : JournalValue) (settings : SettingsValue) (before after : List Entry) (image : ℕ → ℕ) → RestsWith old (Represents journal settings before) → Leaves old new (HoldsEither settings before after) → IsLeft old new image → HoldsEither settings before after image
-left_holds old new journal settings before after image rests leaves left =
-    left_has old new (HoldsEither settings before after) image (rests_as old (Represents journal settings before) (HoldsEither settings before after) (λ image is. inl (represents_holds journal settings before image is)) rests) leaves left
+pub left_has_entries : (old new : Option Media) (journal : JournalValue) (settings : SettingsValue) (before after : List Entry) (image : ℕ → ℕ) → RestsWith old (Represents journal settings before) → Leaves old new (HasEither settings before after) → IsLeft old new image → HasEither settings before after image
+left_has_entries old new journal settings before after image rests leaves left =
+    left_has old new (HasEither settings before after) image (rests_as old (Represents journal settings before) (HasEither settings before after) (λ image is. inl (represents_has journal settings before image is)) rests) leaves left
 
-pub one_history : (settings : SettingsValue) (image : ℕ → ℕ) (first second : List Entry) → Holds settings image first → Holds settings image second → first ≡ second
+pub one_history : (settings : SettingsValue) (image : ℕ → ℕ) (first second : List Entry) → HasEntries settings image first → HasEntries settings image second → first ≡ second
 one_history settings image first second one other = same_entries first second one.each other.each (one_list (slots_of settings) settings.digest image (records_of first) (records_of second) one.records other.records) one_entry
 
-pub survived : (settings : SettingsValue) (before after found : List Entry) (image : ℕ → ℕ) → HoldsEither settings before after image → Holds settings image found → (found ≡ before) ⊎ (found ≡ after)
-survived settings before after found image (inl is) held = inl (one_history settings image found before held is)
-survived settings before after found image (inr is) held = inr (one_history settings image found after held is)
+pub survived : (settings : SettingsValue) (before after found : List Entry) (image : ℕ → ℕ) → HasEither settings before after image → HasEntries settings image found → (found ≡ before) ⊎ (found ≡ after)
+survived settings before after found image (inl is) filled = inl (one_history settings image found before filled is)
+survived settings before after found image (inr is) filled = inr (one_history settings image found after filled is)
 
-pub left_not_refused : (settings : SettingsValue) (extent : ℕ) (before after : List Entry) (image : ℕ → ℕ) (why : JournalFault) → HoldsEither settings before after image → Refuses settings extent image why → IsRefusal why → ⊥
-left_not_refused settings extent before after image why (inl is) refuses refusal = holds_not_refused settings extent image before why is refuses refusal
-left_not_refused settings extent before after image why (inr is) refuses refusal = holds_not_refused settings extent image after why is refuses refusal
+pub left_not_refused : (settings : SettingsValue) (extent : ℕ) (before after : List Entry) (image : ℕ → ℕ) (why : JournalFault) → HasEither settings before after image → Refuses settings extent image why → IsRefusal why → ⊥
+left_not_refused settings extent before after image why (inl is) refuses refusal = has_not_refused settings extent image before why is refuses refusal
+left_not_refused settings extent before after image why (inr is) refuses refusal = has_not_refused settings extent image after why is refuses refusal
 
 pub on_ok_as : {A E : Type 0} {P R : Type 0} (result : Result A E) → (P → R) → OnOk result P → OnOk result R
 on_ok_as (Ok x) made is = made is

@@ -17,7 +17,7 @@ use Rattle.slot_store.specs.StoreValues.{IsFound}
 use Rattle.slot_journal.specs.declared.fault.JournalFault.{JournalFault}
 use Rattle.slot_journal.specs.declared.fault.JournalFault.TheVariants as fault
 use Rattle.slot_journal.specs.DiskEntries.{HasRecord, records_of}
-use Rattle.slot_journal.specs.Refused.{IsNoRecord, RefusesSlot, RefusesRest, RefusesHalf, HoldsFirst, IsStray, AreClosed, IsBadSlot, IsGap}
+use Rattle.slot_journal.specs.Refused.{IsNoRecord, RefusesSlot, RefusesRest, RefusesHalf, HasFirst, IsStray, AreClosed, IsBadSlot, IsGap}
 use Rattle.slot_journal.proofs.Listed.{records_push}
 
 -- ---- one slot
@@ -38,11 +38,11 @@ pub one_slot : (seen : ℕ → ℕ) (at : ℕ) (first second : List ℕ) → IsS
 one_slot seen at first second one other = sym one.bytes ∙ ap (bytes_at seen (at + 3)) (sym one.size ∙ other.size) ∙ other.bytes
 
 pub stray_bytes : (seen : ℕ → ℕ) (at : ℕ) (room : List ℕ) (len : ℕ) → IsFound seen at room (Some len) → length (take len (drop 3 room)) ≡ len → ((entry : Entry) → ¬ (IsRecord (take len (drop 3 room)) entry)) → IsStray seen at
-stray_bytes seen at room len found size none held entry is record_is =
-    none entry (subst (λ held. IsRecord held entry) (one_slot seen at held (take len (drop 3 room)) is (slot_found seen at room len found is.gate size)) record_is)
+stray_bytes seen at room len found size none filled entry is record_is =
+    none entry (subst (λ filled. IsRecord filled entry) (one_slot seen at filled (take len (drop 3 room)) is (slot_found seen at room len found is.gate size)) record_is)
 
 pub stray_long : (seen : ℕ → ℕ) (at : ℕ) (room : List ℕ) → IsFound seen at room None → IsStray seen at
-stray_long seen at room found held entry is record_is =
+stray_long seen at room found filled entry is record_is =
     let long : 8189 < 256 * seen (at + 1) + seen (at + 2) = found in
     let fits = is.fits in
     absurd (omega (arith, long, is.size, fits))
@@ -66,12 +66,12 @@ read_refused seen at room len bytes why found whole same none = slot_refused see
 
 -- ---- the entries, one after the other
 
-pub holds_none : (slots half : ℕ) (seen : ℕ → ℕ) → HoldsFirst slots half seen []
-holds_none slots half seen slot under = absurd (omega (arith, under))
+pub has_none : (slots half : ℕ) (seen : ℕ → ℕ) → HasFirst slots half seen []
+has_none slots half seen slot under = absurd (omega (arith, under))
 
-pub holds_one_more : (slots half : ℕ) (seen : ℕ → ℕ) (entries : List Entry) (entry : Entry) → HoldsFirst slots half seen entries → IsSlot seen (place_of slots half (length entries)) (record_bytes entry)
-    → HoldsFirst slots half seen (entries ++ entry ∷ [])
-holds_one_more slots half seen entries entry first next slot under = elim (cases_eq slot (length entries)) [
+pub has_one_more : (slots half : ℕ) (seen : ℕ → ℕ) (entries : List Entry) (entry : Entry) → HasFirst slots half seen entries → IsSlot seen (place_of slots half (length entries)) (record_bytes entry)
+    → HasFirst slots half seen (entries ++ entry ∷ [])
+has_one_more slots half seen entries entry first next slot under = elim (cases_eq slot (length entries)) [
   | inl same ↦
       let count : length (records_of entries) ≡ slot = length-map entries record_bytes ∙ sym same in
       let last : get_or (records_of (entries ++ entry ∷ [])) slot [] ≡ record_bytes entry = ap (λ records. get_or records slot []) (sym (records_push entries entry (record_bytes entry) refl)) ∙ last_of (records_of entries) (record_bytes entry) slot count in
@@ -96,7 +96,7 @@ holds_one_more slots half seen entries entry first next slot under = elim (cases
     front_of (x ∷ records) bytes (suc slot) under = front_of records bytes slot (omega (arith, under))
 
 -- a slot that is refused is one of the half
-pub bad_slot : (slots half used : ℕ) (seen : ℕ → ℕ) (entries : List Entry) (at : ℕ) (why : JournalFault) → IsCount slots half seen used → length entries < used → at ≡ place_of slots half (length entries) → HoldsFirst slots half seen entries → AllByRecursion HasRecord entries
+pub bad_slot : (slots half used : ℕ) (seen : ℕ → ℕ) (entries : List Entry) (at : ℕ) (why : JournalFault) → IsCount slots half seen used → length entries < used → at ≡ place_of slots half (length entries) → HasFirst slots half seen entries → AllByRecursion HasRecord entries
     → RefusesSlot seen at why → RefusesHalf slots half seen why
 bad_slot slots half used seen entries at (fault.NotOurs place) count under there first each refuses =
     let fits = count.fits in
@@ -138,17 +138,17 @@ first_open slots half seen used slot at is there = (
   all_closed slots half seen used slot is.before,
 )
 
-pub whole_half : (slots half used : ℕ) (seen : ℕ → ℕ) (entries : List Entry) → IsCount slots half seen used → length entries ≡ used → HoldsFirst slots half seen entries → AreClosed slots half seen used slots → IsHalf slots half seen (records_of entries)
+pub whole_half : (slots half used : ℕ) (seen : ℕ → ℕ) (entries : List Entry) → IsCount slots half seen used → length entries ≡ used → HasFirst slots half seen entries → AreClosed slots half seen used slots → IsHalf slots half seen (records_of entries)
 whole_half slots half used seen entries count size first closed =
     let records = length-map entries record_bytes in
     let fits = count.fits in
     record {
       fits = omega (arith, records, size, fits);
-      held = λ slot under. first slot (omega (arith, under, records));
+      filled = λ slot under. first slot (omega (arith, under, records));
       closed = λ slot low high. closed slot (omega (arith, low, records, size)) high;
     }
 
-pub rest_refused : (slots half used : ℕ) (seen : ℕ → ℕ) (entries : List Entry) (why : JournalFault) → IsCount slots half seen used → length entries ≡ used → HoldsFirst slots half seen entries → AllByRecursion HasRecord entries → RefusesRest slots half seen used why → RefusesHalf slots half seen why
+pub rest_refused : (slots half used : ℕ) (seen : ℕ → ℕ) (entries : List Entry) (why : JournalFault) → IsCount slots half seen used → length entries ≡ used → HasFirst slots half seen entries → AllByRecursion HasRecord entries → RefusesRest slots half seen used why → RefusesHalf slots half seen why
 rest_refused slots half used seen entries (fault.NotOurs at) count size first each refuses = elim (cases_eq refuses.0 used) [
   | inl same ↦
       let high = refuses.2 in

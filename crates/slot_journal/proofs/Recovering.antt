@@ -10,7 +10,7 @@ use Rattle.dots_history.specs.declared.entry.Entry.{Entry}
 use Rattle.entry_records.specs.Layout.{record_bytes}
 use Rattle.slot_store.specs.declared.fault.OpenFault.{OpenFault}
 use Rattle.slot_store.specs.declared.fault.OpenFault.TheVariants as opening
-use Rattle.slot_store.specs.Layout.{place_of, IsHeader, IsHalf, IsBlank, IsJournal, HoldsRecords}
+use Rattle.slot_store.specs.Layout.{place_of, IsHeader, IsHalf, IsBlank, IsJournal, HasRecords}
 use Rattle.slot_store.specs.Opening.{Is}
 use Rattle.slot_store.specs.Gates.{Sees}
 use Rattle.slot_store.specs.Refusing.{Refuses as RefusesStore, IsOpen, IsCount, Caused as CausedOpening}
@@ -22,9 +22,9 @@ use Rattle.slot_store.proofs.SameRecords.{one_list}
 use Rattle.slot_journal.specs.declared.fault.JournalFault.{JournalFault}
 use Rattle.slot_journal.specs.declared.fault.JournalFault.TheVariants as fault
 use Rattle.slot_journal.specs.Sizes.{slots_of}
-use Rattle.slot_journal.specs.DiskEntries.{HasRecord, Holds, Represents, records_of}
+use Rattle.slot_journal.specs.DiskEntries.{HasRecord, HasEntries, Represents, records_of}
 use Rattle.slot_journal.specs.Refused.{Refuses, RefusesHalf, IsBadSlot, IsGap, IsFaultFor, Caused}
-use Rattle.slot_journal.proofs.Writing.{AreOf, holds}
+use Rattle.slot_journal.proofs.Writing.{AreOf, image_has}
 
 -- ---- the faults of the slots
 
@@ -52,7 +52,7 @@ half_of slots half other image records same is = subst (λ half. IsHalf slots ha
 
 pub record IsRead (settings : SettingsValue) (store : JournalValue) (entries : List Entry) (seen image : ℕ → ℕ) : Type 0 where
   pub journal : IsJournal store.slots settings.digest image (records_of entries)
-  pub held : HoldsRecords store.slots settings.digest seen (records_of entries)
+  pub filled : HasRecords store.slots settings.digest seen (records_of entries)
 
 pub is_read : (settings : SettingsValue) (store : JournalValue) (entries : List Entry) (seen image : ℕ → ℕ) → IsKnown store settings.digest seen image → IsHalf store.slots (store.selector % 2) image (records_of entries) → IsRead settings store entries seen image
 is_read settings store entries seen image known half = by_cases known.opened.cases
@@ -63,13 +63,13 @@ is_read settings store entries seen image known half = by_cases known.opened.cas
     by_cases : (IsHeader store.slots settings.digest seen × (image ≡ seen)) ⊎ (IsBlank store.slots seen [] × IsJournal store.slots settings.digest image []) → IsRead settings store entries seen image
     by_cases (inl as_it_was) =
         let journal : IsJournal store.slots settings.digest image (records_of entries) = record { header = subst (IsHeader store.slots settings.digest) (sym as_it_was.1) as_it_was.0; half = here } in
-        record { journal = journal; held = inr (subst (λ image. IsJournal store.slots settings.digest image (records_of entries)) as_it_was.1 journal) }
+        record { journal = journal; filled = inr (subst (λ image. IsJournal store.slots settings.digest image (records_of entries)) as_it_was.1 journal) }
     by_cases (inr formatted) =
         let journal : IsJournal store.slots settings.digest image (records_of entries) = record { header = formatted.1.header; half = here } in
-        record { journal = journal; held = inl (record { gate = formatted.0.gate; gates = formatted.0.gates; none = one_list store.slots settings.digest image (records_of entries) [] (inr journal) (inr formatted.1) }) }
+        record { journal = journal; filled = inl (record { gate = formatted.0.gate; gates = formatted.0.gates; none = one_list store.slots settings.digest image (records_of entries) [] (inr journal) (inr formatted.1) }) }
 
 pub record IsRecovered (settings : SettingsValue) (store : JournalValue) (entries : List Entry) (seen : ℕ → ℕ) (new : Option Media) : Type 0 where
-  pub held : Holds settings seen entries
+  pub filled : HasEntries settings seen entries
   pub rests : RestsWith new (Represents store settings entries)
 
 pub recovered : (between new : Option Media) (settings : SettingsValue) (store : JournalValue) (entries : List Entry) (seen : ℕ → ℕ) → store.slots ≡ slots_of settings → RestsWith between (IsKnown store settings.digest seen) → KeepsMedia between new
@@ -86,24 +86,24 @@ recovered between new settings store entries seen size known keeps count each ha
       each = each;
     } in
     record {
-      held = holds settings store.slots seen (records_of entries) entries size (record { same = refl; each = each }) read.held;
+      filled = image_has settings store.slots seen (records_of entries) entries size (record { same = refl; each = each }) read.filled;
       rests = rests_unchanged between new (Represents store settings entries) keeps (rests_as between (Is found.0) (Represents store settings entries) (λ image same. subst (Represents store settings entries) (sym same) represents) found.1);
     }
 
 -- ---- what is held stays held
 
-pub holds_opening : (start between : Option Media) (settings : SettingsValue) (entries : List Entry) → AllByRecursion HasRecord entries → Leaves start between (λ image. HoldsRecords (slots_of settings) settings.digest image (records_of entries)) → Leaves start between (λ image. Holds settings image entries)
-holds_opening start between settings entries each leaves =
-    leaves_as start between (λ image. HoldsRecords (slots_of settings) settings.digest image (records_of entries)) (λ image. Holds settings image entries) (λ image is. record { records = is; each = each }) leaves
+pub has_opening : (start between : Option Media) (settings : SettingsValue) (entries : List Entry) → AllByRecursion HasRecord entries → Leaves start between (λ image. HasRecords (slots_of settings) settings.digest image (records_of entries)) → Leaves start between (λ image. HasEntries settings image entries)
+has_opening start between settings entries each leaves =
+    leaves_as start between (λ image. HasRecords (slots_of settings) settings.digest image (records_of entries)) (λ image. HasEntries settings image entries) (λ image is. record { records = is; each = each }) leaves
 
-pub holds_reading : (start between new : Option Media) (settings : SettingsValue) (store : JournalValue) (entries : List Entry) (seen : ℕ → ℕ) → store.slots ≡ slots_of settings → Holds settings seen entries → RestsWith between (IsKnown store settings.digest seen) → KeepsMedia between new
-    → Leaves start between (λ image. HoldsRecords (slots_of settings) settings.digest image (records_of entries)) → Leaves start new (λ image. Holds settings image entries)
-holds_reading start between new settings store entries seen size is known keeps leaves =
+pub has_reading : (start between new : Option Media) (settings : SettingsValue) (store : JournalValue) (entries : List Entry) (seen : ℕ → ℕ) → store.slots ≡ slots_of settings → HasEntries settings seen entries → RestsWith between (IsKnown store settings.digest seen) → KeepsMedia between new
+    → Leaves start between (λ image. HasRecords (slots_of settings) settings.digest image (records_of entries)) → Leaves start new (λ image. HasEntries settings image entries)
+has_reading start between new settings store entries seen size is known keeps leaves =
     let found = seen_at_rest between (IsKnown store settings.digest seen) known in
     let opened : IsOpen (slots_of settings) settings.digest seen store.selector found.0 = subst (λ slots. IsOpen slots settings.digest seen store.selector found.0) size found.2.opened in
     let journal = opened_journal (slots_of settings) settings.digest seen found.0 store.selector (records_of entries) opened is.records in
-    leaves_then start between new (λ image. Holds settings image entries) (holds_opening start between settings entries is.each leaves)
-    (leaves_unchanged between new found.0 (λ image. Holds settings image entries) keeps found.1 (record { records = inr journal; each = is.each }))
+    leaves_then start between new (λ image. HasEntries settings image entries) (has_opening start between settings entries is.each leaves)
+    (leaves_unchanged between new found.0 (λ image. HasEntries settings image entries) keeps found.1 (record { records = inr journal; each = is.each }))
 
 -- ---- why a half is refused
 

@@ -8,12 +8,12 @@ use Rattle.dots_settings.specs.Settings.{SettingsValue}
 use Rattle.dots_history.specs.declared.entry.Entry.{Entry}
 use Rattle.entry_records.specs.Layout.{record_bytes}
 use Rattle.entry_records.specs.Records.{IsRecord}
-use Rattle.slot_store.specs.Layout.{HoldsRecords}
+use Rattle.slot_store.specs.Layout.{HasRecords}
 use Rattle.slot_store.specs.Copying.{AreSlots, kept_of}
-use Rattle.slot_store.specs.StoreValues.{JournalValue, RepresentsRecords, HoldsEither as RecordsEither}
+use Rattle.slot_store.specs.StoreValues.{JournalValue, RepresentsRecords, HasEither as RecordsEither}
 use Rattle.slot_store.proofs.Steps.{leaves_as, seen_at_rest, rests_as}
 use Rattle.slot_journal.specs.Sizes.{slots_of}
-use Rattle.slot_journal.specs.DiskEntries.{HasRecord, Holds, HoldsEither, Represents, records_of, entries_at}
+use Rattle.slot_journal.specs.DiskEntries.{HasRecord, HasEntries, HasEither, Represents, records_of, entries_at}
 use Rattle.slot_journal.proofs.Listed.{all_push, records_push, are_kept}
 
 -- the records are those of these entries
@@ -21,25 +21,25 @@ pub record AreOf (records : List (List ℕ)) (entries : List Entry) : Type 0 whe
   pub same : records ≡ records_of entries
   pub each : AllByRecursion HasRecord entries
 
-pub holds : (settings : SettingsValue) (slots : ℕ) (image : ℕ → ℕ) (records : List (List ℕ)) (entries : List Entry) → slots ≡ slots_of settings → AreOf records entries → HoldsRecords slots settings.digest image records → Holds settings image entries
-holds settings slots image records entries size are is = record {
-  records = subst (λ slots. HoldsRecords slots settings.digest image (records_of entries)) size (subst (HoldsRecords slots settings.digest image) are.same is);
+pub image_has : (settings : SettingsValue) (slots : ℕ) (image : ℕ → ℕ) (records : List (List ℕ)) (entries : List Entry) → slots ≡ slots_of settings → AreOf records entries → HasRecords slots settings.digest image records → HasEntries settings image entries
+image_has settings slots image records entries size are is = record {
+  records = subst (λ slots. HasRecords slots settings.digest image (records_of entries)) size (subst (HasRecords slots settings.digest image) are.same is);
   each = are.each;
 }
 
 either : (settings : SettingsValue) (slots : ℕ) (image : ℕ → ℕ) (records : List (List ℕ)) (first second : List Entry) → slots ≡ slots_of settings → AllByRecursion HasRecord first → AreOf records second
-    → RecordsEither slots settings.digest (records_of first) records image → HoldsEither settings first second image
-either settings slots image records first second size all are (inl is) = inl (holds settings slots image (records_of first) first size (record { same = refl; each = all }) is)
-either settings slots image records first second size all are (inr is) = inr (holds settings slots image records second size are is)
+    → RecordsEither slots settings.digest (records_of first) records image → HasEither settings first second image
+either settings slots image records first second size all are (inl is) = inl (image_has settings slots image (records_of first) first size (record { same = refl; each = all }) is)
+either settings slots image records first second size all are (inr is) = inr (image_has settings slots image records second size are is)
 
 -- each image holds the one list or the other
 pub leaves_either : (start new : Option Media) (journal : JournalValue) (settings : SettingsValue) (records : List (List ℕ)) (first second : List Entry)
     → ((image : ℕ → ℕ) → Represents journal settings first image → AreOf records second) → RestsWith start (Represents journal settings first)
     → (RestsWith start (RepresentsRecords journal settings.digest (records_of first)) → Leaves start new (RecordsEither journal.slots settings.digest (records_of first) records))
-    → Leaves start new (HoldsEither settings first second)
+    → Leaves start new (HasEither settings first second)
 leaves_either start new journal settings records first second are rests leaves =
     let found = seen_at_rest start (Represents journal settings first) rests in
-    leaves_as start new (RecordsEither journal.slots settings.digest (records_of first) records) (HoldsEither settings first second)
+    leaves_as start new (RecordsEither journal.slots settings.digest (records_of first) records) (HasEither settings first second)
     (λ image is. either settings journal.slots image records first second found.2.slots found.2.each (are found.0 found.2) is)
     (leaves (rests_as start (Represents journal settings first) (RepresentsRecords journal settings.digest (records_of first)) (λ image is. is.represents) rests))
 

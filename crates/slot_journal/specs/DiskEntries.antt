@@ -6,7 +6,7 @@ use Rattle.dots_history.specs.declared.entry.Entry.{Entry}
 use Rattle.dots_history.specs.Bounds.{within_bounds}
 use Rattle.entry_records.specs.Values.{IsEntry}
 use Rattle.entry_records.specs.Layout.{record_bytes}
-use Rattle.slot_store.specs.Layout.{HoldsRecords}
+use Rattle.slot_store.specs.Layout.{HasRecords}
 use Rattle.slot_store.specs.StoreValues.{JournalValue, RepresentsRecords}
 use Rattle.slot_journal.specs.Sizes.{slots_of}
 
@@ -19,13 +19,13 @@ abbrev pub records_of : List Entry → List (List ℕ)
 records_of entries = map record_bytes entries
 
 -- An image of a disk holds these entries, under these settings: without a header each gate is zero and there is none; else they are those of the records of the half in use.
-pub record Holds (settings : SettingsValue) (image : ℕ → ℕ) (entries : List Entry) : Type 0 where
-  pub records : HoldsRecords (slots_of settings) settings.digest image (records_of entries)
+pub record HasEntries (settings : SettingsValue) (image : ℕ → ℕ) (entries : List Entry) : Type 0 where
+  pub records : HasRecords (slots_of settings) settings.digest image (records_of entries)
   pub each : AllByRecursion HasRecord entries
 
 -- one list of entries, or another
-abbrev pub HoldsEither : SettingsValue → List Entry → List Entry → (ℕ → ℕ) → Type 0
-HoldsEither settings first second image = Holds settings image first ⊎ Holds settings image second
+abbrev pub HasEither : SettingsValue → List Entry → List Entry → (ℕ → ℕ) → Type 0
+HasEither settings first second image = HasEntries settings image first ⊎ HasEntries settings image second
 
 -- the journal represents these entries on this disk
 pub record Represents (journal : JournalValue) (settings : SettingsValue) (entries : List Entry) (image : ℕ → ℕ) : Type 0 where

@@ -16,7 +16,7 @@ use Rattle.slot_journal.specs.DiskEntries.{HasRecord, records_of}
 
 -- what stands in the slot is the record of no entry
 abbrev pub IsStray : (ℕ → ℕ) → ℕ → Type 0
-IsStray seen at = (held : List ℕ) (entry : Entry) → IsSlot seen at held → ¬ (IsRecord held entry)
+IsStray seen at = (filled : List ℕ) (entry : Entry) → IsSlot seen at filled → ¬ (IsRecord filled entry)
 
 -- why no entry is read of bytes that stand in the slot at the place
 abbrev pub IsNoRecord : List ℕ → ℕ → JournalFault → Type 0
@@ -32,8 +32,8 @@ RefusesSlot seen at fault.NoMemory = ⊤
 RefusesSlot seen at _ = ⊥
 
 -- the first slots of a half hold the records of these entries
-abbrev pub HoldsFirst : ℕ → ℕ → (ℕ → ℕ) → List Entry → Type 0
-HoldsFirst slots half seen entries = (slot : ℕ) → slot < length entries → IsSlot seen (place_of slots half slot) (slice_index_or (records_of entries) slot [])
+abbrev pub HasFirst : ℕ → ℕ → (ℕ → ℕ) → List Entry → Type 0
+HasFirst slots half seen entries = (slot : ℕ) → slot < length entries → IsSlot seen (place_of slots half slot) (slice_index_or (records_of entries) slot [])
 
 -- the gates of these slots are not open, from the one up to the other
 abbrev pub AreClosed : ℕ → ℕ → (ℕ → ℕ) → ℕ → ℕ → Type 0
@@ -42,7 +42,7 @@ AreClosed slots half seen from to = (slot : ℕ) → from ≤ slot → slot < to
 -- the first slot of a half whose gate is open and whose record is that of no entry
 pub record IsBadSlot (slots half : ℕ) (seen : ℕ → ℕ) (at : ℕ) : Type 0 where
   pub before : List Entry
-  pub front : HoldsFirst slots half seen before
+  pub front : HasFirst slots half seen before
   pub each : AllByRecursion HasRecord before
   pub within : length before < slots
   pub there : at ≡ place_of slots half (length before)
@@ -52,7 +52,7 @@ pub record IsBadSlot (slots half : ℕ) (seen : ℕ → ℕ) (at : ℕ) : Type 0
 -- the first slot with an open gate behind one whose gate isn't open
 pub record IsGap (slots half : ℕ) (seen : ℕ → ℕ) (at : ℕ) : Type 0 where
   pub before : List Entry
-  pub front : HoldsFirst slots half seen before
+  pub front : HasFirst slots half seen before
   pub each : AllByRecursion HasRecord before
   pub slot : ℕ
   pub behind : length before < slot

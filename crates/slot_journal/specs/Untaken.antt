@@ -10,7 +10,7 @@ use Rattle.slot_store.specs.StoreValues.{JournalValue}
 use Rattle.slot_journal.specs.declared.fault.JournalFault.{JournalFault}
 use Rattle.slot_journal.specs.declared.fault.JournalFault.TheVariants as fault
 use Rattle.slot_journal.specs.Sizes.{slots_of}
-use Rattle.slot_journal.specs.DiskEntries.{Holds}
+use Rattle.slot_journal.specs.DiskEntries.{HasEntries}
 use Rattle.slot_journal.specs.Refused.{Refuses}
 
 -- at this place stands the first of the entries that doesn't join those before it
@@ -32,16 +32,16 @@ RefusesEntries settings journal entries _ = ⊥
 
 -- A disk holds entries, one of which doesn't join: the place is that of its slot, in the half that is in use by what the disk rests with
 -- in the end.
-pub record HoldsStray (settings : SettingsValue) (seen : ℕ → ℕ) (now : Option Media) (at : ℕ) : Type 0 where
+pub record HasStray (settings : SettingsValue) (seen : ℕ → ℕ) (now : Option Media) (at : ℕ) : Type 0 where
   pub entries : List Entry
-  pub holds : Holds settings seen entries
+  pub image_has : HasEntries settings seen entries
   pub slot : ℕ
   pub apart : IsApart settings entries slot
   pub there : RestsWith now (λ image. at ≡ place_of (slots_of settings) (image 48 % 2) slot)
 
 -- why no ledger begins: the journal isn't recovered, or holds an entry that doesn't join those before it
 abbrev pub RefusesLedger : SettingsValue → ℕ → (ℕ → ℕ) → Option Media → JournalFault → Type 0
-RefusesLedger settings extent seen now (fault.NotOurs at) = Refuses settings extent seen (fault.NotOurs at) ⊎ HoldsStray settings seen now at
+RefusesLedger settings extent seen now (fault.NotOurs at) = Refuses settings extent seen (fault.NotOurs at) ⊎ HasStray settings seen now at
 RefusesLedger settings extent seen now why = Refuses settings extent seen why
 
 -- memory ran out, or a call of the disk failed

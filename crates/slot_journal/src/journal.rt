@@ -10,7 +10,7 @@ ghost use Rattle.slot_store.specs.Opening.{Is};
 ghost use Rattle.slot_store.specs.Gates.{Sees};
 ghost use Rattle.slot_store.specs.Copying.{AreSlots, other_selector};
 ghost use Rattle.slot_journal.specs.Sizes.{slots_of};
-ghost use Rattle.slot_journal.specs.DiskEntries.{Holds, HoldsEither, HasRecord, Represents, entries_at};
+ghost use Rattle.slot_journal.specs.DiskEntries.{HasEntries, HasEither, HasRecord, Represents, entries_at};
 ghost use Rattle.slot_journal.specs.Refused.{Refuses, Caused};
 
 use crate::entries::EntryList;
@@ -55,12 +55,12 @@ impl Journal {
     ) -> Result<(Self, EntryList), JournalFault>
         // A disk on which nothing was pending holds the same list at each moment.
         ensures moments { (seen : ℕ → ℕ) (entries : List Entry) → RestsWith (D.media disk.old) (Is seen) →
-            Holds settings.now seen entries →
-            Leaves (D.media disk.old) (D.media disk.new) (λ image. Holds settings.now image entries) }
+            HasEntries settings.now seen entries →
+            Leaves (D.media disk.old) (D.media disk.new) (λ image. HasEntries settings.now image entries) }
 
         // What is answered is what the disk held, and in the end it rests with that.
         ensures recovered { IfOk result (λ found. (seen : ℕ → ℕ) → Sees (D.media disk.old) seen →
-            Holds settings.now seen found.1 × RestsWith (D.media disk.new) (Represents found.0 settings.now found.1)) }
+            HasEntries settings.now seen found.1 × RestsWith (D.media disk.new) (Represents found.0 settings.now found.1)) }
         ensures each { IfOk result (λ found. AllByRecursion HasRecord found.1) }
         ensures size { IfOk result (λ found. (found.0.slots ≡ slots_of settings.now) × (needed_of (slots_of settings.now) ≤ D.extent disk.new)) }
         ensures refused { IfErr result (λ fault. (seen : ℕ → ℕ) → Sees (D.media disk.old) seen →
@@ -121,7 +121,7 @@ impl Journal {
         // At each moment each image holds the entries, or one more; in the end one more alone.
         ensures moments { (settings : SettingsValue) (entries : List Entry) →
             RestsWith (D.media disk.old) (Represents self.old settings entries) →
-            Leaves (D.media disk.old) (D.media disk.new) (HoldsEither settings entries (entries ++ entry.now ∷ [])) }
+            Leaves (D.media disk.old) (D.media disk.new) (HasEither settings entries (entries ++ entry.now ∷ [])) }
         ensures rests { OnOk result ((settings : SettingsValue) (entries : List Entry) →
             RestsWith (D.media disk.old) (Represents self.old settings entries) →
             RestsWith (D.media disk.new) (Represents self.new settings (entries ++ entry.now ∷ []))) }
@@ -151,7 +151,7 @@ impl Journal {
         // At each moment each image holds the entries, or the kept ones; in the end the kept ones alone.
         ensures moments { (settings : SettingsValue) (entries : List Entry) →
             RestsWith (D.media disk.old) (Represents self.old settings entries) →
-            Leaves (D.media disk.old) (D.media disk.new) (HoldsEither settings entries (entries_at entries keep.now)) }
+            Leaves (D.media disk.old) (D.media disk.new) (HasEither settings entries (entries_at entries keep.now)) }
         ensures rests { OnOk result ((settings : SettingsValue) (entries : List Entry) →
             RestsWith (D.media disk.old) (Represents self.old settings entries) →
             RestsWith (D.media disk.new) (Represents self.new settings (entries_at entries keep.now))) }

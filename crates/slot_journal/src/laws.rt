@@ -9,7 +9,7 @@ ghost use Rattle.dots_history.specs.declared.entry.Entry.{Entry};
 ghost use Rattle.dots_history.specs.Bounds.{within_bounds};
 ghost use Rattle.slot_store.specs.Layout.{needed_of};
 ghost use Rattle.slot_store.specs.Gates.{Sees};
-ghost use Rattle.slot_journal.specs.DiskEntries.{Holds, Represents};
+ghost use Rattle.slot_journal.specs.DiskEntries.{HasEntries, Represents};
 ghost use Rattle.slot_journal.specs.Left.{IsLeft};
 ghost use Rattle.slot_journal.specs.Refused.{Refuses, IsRefusal, Caused};
 
@@ -24,12 +24,12 @@ use std::alloc::Global;
 
 /// An image of a disk holds one list of entries at most.
 pub fn one_history()
-    ensures { (settings : SettingsValue) (image : ℕ → ℕ) (first second : List Entry) → Holds settings image first → Holds settings image second → first ≡ second }
+    ensures { (settings : SettingsValue) (image : ℕ → ℕ) (first second : List Entry) → HasEntries settings image first → HasEntries settings image second → first ≡ second }
 {}
 
 /// A disk that holds a list of entries is not refused for what it holds.
-pub fn what_is_held_is_recovered()
-    ensures { (settings : SettingsValue) (extent : ℕ) (image : ℕ → ℕ) (entries : List Entry) (fault : JournalFault) → Holds settings image entries → Refuses settings extent image fault → IsRefusal fault → ⊥ }
+pub fn what_is_stored_is_recovered()
+    ensures { (settings : SettingsValue) (extent : ℕ) (image : ℕ → ℕ) (entries : List Entry) (fault : JournalFault) → HasEntries settings image entries → Refuses settings extent image fault → IsRefusal fault → ⊥ }
 {}
 
 /// Appends an entry on one disk, and recovers another one, on which a crash in the middle of that left an image of the
@@ -61,7 +61,7 @@ pub fn survives_crash<D: Disk, C: Disk>(
 
     // Whatever the other disk held, it held the entries that are recovered.
     ensures recovered { IfOk result (λ answer. (seen : ℕ → ℕ) → Sees (C.media left.old) seen →
-        Holds settings.now seen answer.1) }
+        HasEntries settings.now seen answer.1) }
 
     // They are those from before, or these and the new one, at whichever moment the crash comes, and whatever it leaves.
     ensures survived { IfOk result (λ answer. (before : List Entry) (image : ℕ → ℕ) →

@@ -2,7 +2,7 @@
 
 ghost use Rattle.std.specs.Prelude.{◌≡◌, ◌≢◌, ℕ, ◌≤◌, List, IfOk, IfErr};
 ghost use Rattle.dots_disk.specs.Becoming.{Leaves, RestsWith};
-ghost use Rattle.slot_store.specs.Layout.{needed_of, HoldsRecords};
+ghost use Rattle.slot_store.specs.Layout.{needed_of, HasRecords};
 ghost use Rattle.slot_store.specs.Opening.{Is};
 ghost use Rattle.slot_store.specs.Gates.{Sees};
 ghost use Rattle.slot_store.specs.StoreValues.{IsKnown};
@@ -39,8 +39,8 @@ pub fn open_store<D: Disk>(
     settings: &Settings,
 ) -> Result<SlotStore, JournalFault>
     ensures moments { (seen : ℕ → ℕ) (records : List (List ℕ)) → RestsWith (D.media disk.old) (Is seen) →
-        HoldsRecords (slots_of settings.now) settings.now.digest seen records →
-        Leaves (D.media disk.old) (D.media disk.new) (λ image. HoldsRecords (slots_of settings.now) settings.now.digest image records) }
+        HasRecords (slots_of settings.now) settings.now.digest seen records →
+        Leaves (D.media disk.old) (D.media disk.new) (λ image. HasRecords (slots_of settings.now) settings.now.digest image records) }
     ensures known { IfOk result (λ store. (seen : ℕ → ℕ) → Sees (D.media disk.old) seen →
         RestsWith (D.media disk.new) (IsKnown store settings.now.digest seen)) }
     ensures size { IfOk result (λ store. (store.slots ≡ slots_of settings.now) × (needed_of (slots_of settings.now) ≤ D.extent disk.new)) }

@@ -8,7 +8,7 @@ ghost use Rattle.slot_store.specs.Layout.{needed_of, IsSlot, IsHalf};
 ghost use Rattle.slot_store.specs.Gates.{Sees};
 ghost use Rattle.slot_store.specs.Refusing.{IsCount};
 ghost use Rattle.slot_journal.specs.DiskEntries.{HasRecord, records_of};
-ghost use Rattle.slot_journal.specs.Refused.{IsNoRecord, IsNoWant, RefusesSlot, RefusesRest, RefusesHalf, HoldsFirst, AreClosed, Caused};
+ghost use Rattle.slot_journal.specs.Refused.{IsNoRecord, IsNoWant, RefusesSlot, RefusesRest, RefusesHalf, HasFirst, AreClosed, Caused};
 
 use crate::entries::EntryList;
 use crate::fault::JournalFault;
@@ -61,7 +61,7 @@ fn read_entries<D: Disk>(
     ensures each { IfOk result (AllByRecursion HasRecord) }
     ensures entries { IfOk result (λ entries. (seen : ℕ → ℕ) → Sees (D.media disk.old) seen →
         IsCount store.now.slots (store.now.selector % 2) seen store.now.used →
-        HoldsFirst store.now.slots (store.now.selector % 2) seen entries) }
+        HasFirst store.now.slots (store.now.selector % 2) seen entries) }
     ensures refused { IfErr result (λ fault. (seen : ℕ → ℕ) → Sees (D.media disk.old) seen →
         IsCount store.now.slots (store.now.selector % 2) seen store.now.used →
         RefusesHalf store.now.slots (store.now.selector % 2) seen fault) }

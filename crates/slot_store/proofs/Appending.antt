@@ -3,7 +3,7 @@ use Rattle.std.proofs.Common.{◌≡◌, ◌≢◌, ℕ, ◌+◌, ◌*◌, ◌/�
 use Rattle.std.proofs.lemmas.Bool.{cases_eq}
 use Rattle.dots_disk.specs.Media.{bytes_at}
 use Rattle.slot_store.specs.Layout.{place_of, IsSlot, IsHalf, IsJournal}
-use Rattle.slot_store.specs.StoreValues.{HoldsEither, sized}
+use Rattle.slot_store.specs.StoreValues.{HasEither, sized}
 use Rattle.slot_store.specs.Opening.{IsOpening, IsOpened}
 use Rattle.slot_store.proofs.Places.{Agree, same_header, same_slot}
 use Rattle.slot_store.proofs.SameRecords.{journal_same, half_more}
@@ -67,14 +67,14 @@ now_open slots digest records added count seen image is room small kept last =
     let half : seen 48 % 2 ≡ image 48 % 2 = ap (λ n. n % 2) (sym selector) in
     record {
       header = same_header slots digest seen image front is.header;
-      half = subst (λ half. IsHalf slots half image (records ++ added ∷ [])) half (half_more slots (seen 48 % 2) image records added room held last closed);
+      half = subst (λ half. IsHalf slots half image (records ++ added ∷ [])) half (half_more slots (seen 48 % 2) image records added room filled last closed);
     }
   where
-    held : (slot : ℕ) → slot < length records → IsSlot image (place_of slots (seen 48 % 2) slot) (get_or records slot [])
-    held slot below =
+    filled : (slot : ℕ) → slot < length records → IsSlot image (place_of slots (seen 48 % 2) slot) (get_or records slot [])
+    filled slot below =
         let agree = agree_used slots (seen 48 % 2) (length records) count seen image kept slot below in
         same_slot seen image (place_of slots (seen 48 % 2) slot) (place_of slots (seen 48 % 2) slot) (get_or records slot [])
-        (λ offset within. agree (place_of slots (seen 48 % 2) slot + offset) (omega arith) (omega arith)) (is.half.held slot below)
+        (λ offset within. agree (place_of slots (seen 48 % 2) slot + offset) (omega arith) (omega arith)) (is.half.filled slot below)
 
     closed : (slot : ℕ) → length records < slot → slot < slots → image (place_of slots (seen 48 % 2) slot) ≢ 165
     closed slot low high = λ opened. is.half.closed slot (omega arith) high (sym (agree_gate slots (seen 48 % 2) (length records) count seen image kept small slot low) ∙ opened)
@@ -82,7 +82,7 @@ now_open slots digest records added count seen image is room small kept last =
 -- ---- an image while a gate is opened holds the records, or one more
 
 pub either : (slots : ℕ) (digest : List ℕ) (records : List (List ℕ)) (added : List ℕ) (seen image : ℕ → ℕ) → IsJournal slots digest seen records → length records < slots → length added ≤ 8189
-    → IsOpening seen (place_of slots (seen 48 % 2) (length records)) (sized added) image → HoldsEither slots digest records (records ++ added ∷ []) image
+    → IsOpening seen (place_of slots (seen 48 % 2) (length records)) (sized added) image → HasEither slots digest records (records ++ added ∷ []) image
 either slots digest records added seen image is room fits opening = elim (cases_eq (image (place_of slots (seen 48 % 2) (length records))) 165) [
   | inl opened ↦ inr (inr (now_open slots digest records added (1 + length (sized added)) seen image is room (omega arith) kept (slot_of image (place_of slots (seen 48 % 2) (length records)) added opened fits (stands opened opening.gate))))
   | inr closed ↦ inl (inr (still_closed slots digest records (1 + length (sized added)) seen image is (omega arith) kept closed))

@@ -17,8 +17,8 @@ each_then [] back P a b = b
 each_then (medium ∷ front) back P a b = (a.0, each_then front back P a.1 b)
 
 each_like : (media : List Medium) (now : Medium) (P : Medium → Type 0) → P now → EachMedium media (λ medium. medium ≡ now) → EachMedium media P
-each_like [] now P holds are = tt
-each_like (medium ∷ media) now P holds are = (subst P (sym are.0) holds, each_like media now P holds are.1)
+each_like [] now P image_has are = tt
+each_like (medium ∷ media) now P image_has are = (subst P (sym are.0) image_has, each_like media now P image_has are.1)
 
 -- reads came
 pub stage_read : (start between new : Option Media) (P : (ℕ → ℕ) → Type 0) (Q : Medium → Type 0) → Stage start between P Q → KeepsMedia between new → ((medium : Medium) → Q medium → Images P medium) → Stage start new P Q

@@ -5,7 +5,7 @@ use Rattle.std.proofs.lemmas.Bool.{cases_order, eqb-true, eqb-false, not-true, n
 use Rattle.dots_disk.specs.Media.{Media}
 use Rattle.dots_disk.specs.Becoming.{KeepsMedia, Leaves, RestsWith}
 use Rattle.slot_store.specs.declared.wanted.Wanted.TheVariants as wanted
-use Rattle.slot_store.specs.Layout.{place_of, IsHeader, IsHalf, IsBlank, IsJournal, HoldsRecords}
+use Rattle.slot_store.specs.Layout.{place_of, IsHeader, IsHalf, IsBlank, IsJournal, HasRecords}
 use Rattle.slot_store.specs.Gates.{is_wanted}
 use Rattle.slot_store.specs.Gates.{NoneIs, IsFirst, Sees}
 use Rattle.slot_store.specs.StoreValues.{RepresentsRecords, IsKnown}
@@ -48,7 +48,7 @@ used_is slots half image records used is count = elim (cases_order used (length 
   | inr (inl fewer) ↦
       let fits = is.fits in
       let within : used < slots = omega arith in
-      absurd (count.next within (is.held used fewer).gate)
+      absurd (count.next within (is.filled used fewer).gate)
   | inr (inr more) ↦
       let fits = count.fits in
       let within : length records < slots = omega arith in
@@ -56,24 +56,24 @@ used_is slots half image records used is count = elim (cases_order used (length 
 ]
 
 -- the list that a disk held is that of the disk that was opened
-pub opened_journal : (slots : ℕ) (digest : List ℕ) (seen image : ℕ → ℕ) (selector : ℕ) (records : List (List ℕ)) → IsOpen slots digest seen selector image → HoldsRecords slots digest seen records → IsJournal slots digest image records
-opened_journal slots digest seen image selector records opened holds = by_cases opened.cases holds
+pub opened_journal : (slots : ℕ) (digest : List ℕ) (seen image : ℕ → ℕ) (selector : ℕ) (records : List (List ℕ)) → IsOpen slots digest seen selector image → HasRecords slots digest seen records → IsJournal slots digest image records
+opened_journal slots digest seen image selector records opened image_has = by_cases opened.cases image_has
   where
-    by_cases : (IsHeader slots digest seen × (image ≡ seen)) ⊎ (IsBlank slots seen [] × IsJournal slots digest image []) → HoldsRecords slots digest seen records → IsJournal slots digest image records
+    by_cases : (IsHeader slots digest seen × (image ≡ seen)) ⊎ (IsBlank slots seen [] × IsJournal slots digest image []) → HasRecords slots digest seen records → IsJournal slots digest image records
     by_cases (inl as_it_was) (inl blank) = absurd (blank.gate (gate_of_header slots digest seen as_it_was.0))
     by_cases (inl as_it_was) (inr journal) = subst (λ image. IsJournal slots digest image records) (sym as_it_was.1) journal
-    by_cases (inr formatted) holds = subst (IsJournal slots digest image) (one_list slots digest seen [] records (inl formatted.0) holds) formatted.1
+    by_cases (inr formatted) image_has = subst (IsJournal slots digest image) (one_list slots digest seen [] records (inl formatted.0) image_has) formatted.1
 
-pub opened_is_there : (new : Option Media) (slots : ℕ) (digest : List ℕ) (seen : ℕ → ℕ) (selector used : ℕ) (records : List (List ℕ)) → RestsWith new (IsOpen slots digest seen selector) → HoldsRecords slots digest seen records
+pub opened_is_there : (new : Option Media) (slots : ℕ) (digest : List ℕ) (seen : ℕ → ℕ) (selector used : ℕ) (records : List (List ℕ)) → RestsWith new (IsOpen slots digest seen selector) → HasRecords slots digest seen records
     → ((image : ℕ → ℕ) → Sees new image → IsCount slots (selector % 2) image used) → RestsWith new (RepresentsRecords (record { slots = slots; selector = selector; used = used }) digest records)
-opened_is_there new slots digest seen selector used records rests holds count =
+opened_is_there new slots digest seen selector used records rests image_has count =
     let found = seen_at_rest new (IsOpen slots digest seen selector) rests in
     let counted = count found.0 (sees_at_rest new found.0 found.1) in
     rests_as new (Is found.0) (RepresentsRecords (record { slots = slots; selector = selector; used = used }) digest records) (λ image same. stands image (subst (IsOpen slots digest seen selector) (sym same) found.2) (subst (λ image. IsCount slots (selector % 2) image used) (sym same) counted)) found.1
   where
     stands : (image : ℕ → ℕ) → IsOpen slots digest seen selector image → IsCount slots (selector % 2) image used → RepresentsRecords (record { slots = slots; selector = selector; used = used }) digest records image
     stands image opened counted =
-        let journal = opened_journal slots digest seen image selector records opened holds in
+        let journal = opened_journal slots digest seen image selector records opened image_has in
         let half : IsHalf slots (selector % 2) image records = subst (λ n. IsHalf slots (n % 2) image records) opened.selector_there journal.half in
         record { journal = journal; used = used_is slots (selector % 2) image records used half counted; selector = opened.selector_there }
 
@@ -86,9 +86,9 @@ opened_known new slots digest seen selector used rests count =
     (λ image same. record { opened = subst (IsOpen slots digest seen selector) (sym same) found.2; count = subst (λ image. IsCount slots (selector % 2) image used) (sym same) counted }) found.1
 
 -- while the gates are read, the disk holds what it held
-pub opened_reads : (start between new : Option Media) (slots : ℕ) (digest : List ℕ) (seen : ℕ → ℕ) (selector : ℕ) (records : List (List ℕ)) → Leaves start between (λ image. HoldsRecords slots digest image records) → RestsWith between (IsOpen slots digest seen selector)
-    → HoldsRecords slots digest seen records → KeepsMedia between new → Leaves start new (λ image. HoldsRecords slots digest image records)
-opened_reads start between new slots digest seen selector records leaves rests holds keeps =
+pub opened_reads : (start between new : Option Media) (slots : ℕ) (digest : List ℕ) (seen : ℕ → ℕ) (selector : ℕ) (records : List (List ℕ)) → Leaves start between (λ image. HasRecords slots digest image records) → RestsWith between (IsOpen slots digest seen selector)
+    → HasRecords slots digest seen records → KeepsMedia between new → Leaves start new (λ image. HasRecords slots digest image records)
+opened_reads start between new slots digest seen selector records leaves rests image_has keeps =
     let found = seen_at_rest between (IsOpen slots digest seen selector) rests in
-    leaves_then start between new (λ image. HoldsRecords slots digest image records) leaves
-    (leaves_unchanged between new found.0 (λ image. HoldsRecords slots digest image records) keeps found.1 (inr (opened_journal slots digest seen found.0 selector records found.2 holds)))
+    leaves_then start between new (λ image. HasRecords slots digest image records) leaves
+    (leaves_unchanged between new found.0 (λ image. HasRecords slots digest image records) keeps found.1 (inr (opened_journal slots digest seen found.0 selector records found.2 image_has)))

@@ -78,15 +78,15 @@ bytes_seen (Some start) seen at count bytes read sees = read ∙ ap (λ seen. by
 
 -- while a disk at rest is read, its images are what a read gives
 pub leaves_unchanged : (start new : Option Media) (seen : ℕ → ℕ) (P : (ℕ → ℕ) → Type 0) → KeepsMedia start new → RestsWith start (Is seen) → P seen → Leaves start new P
-leaves_unchanged None new seen P keeps rests holds = absurd rests
-leaves_unchanged (Some start) None seen P keeps rests holds = absurd keeps
-leaves_unchanged (Some start) (Some new) seen P keeps rests holds = (keeps.0, keeps.1, each keeps.0 keeps.2)
+leaves_unchanged None new seen P keeps rests image_has = absurd rests
+leaves_unchanged (Some start) None seen P keeps rests image_has = absurd keeps
+leaves_unchanged (Some start) (Some new) seen P keeps rests image_has = (keeps.0, keeps.1, each keeps.0 keeps.2)
   where
     image_of : (medium : Medium) → medium ≡ start.now → Images P medium
     image_of medium same = λ image of.
         let none : medium.pending ≡ [] = ap (λ medium. medium.pending) same ∙ rests.0 in
         let is : image ≡ seen = fun_ext (λ place. image_at_rest medium image none of place) ∙ ap (λ medium. medium.seen) same ∙ rests.1 in
-        subst P (sym is) holds
+        subst P (sym is) image_has
 
     each : (media : List Medium) → EachMedium media (λ medium. medium ≡ start.now) → EachMedium media (Images P)
     each [] are = tt

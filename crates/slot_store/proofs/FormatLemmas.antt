@@ -6,7 +6,7 @@ use Rattle.dots_disk.specs.Media.{Media, byte_of, bytes_at}
 use Rattle.dots_disk.specs.Becoming.{KeepsMedia, Leaves, RestsWith}
 use Rattle.dots_disk.proofs.WrittenLemmas.{byte_of_bytes_at}
 use Rattle.slot_store.specs.declared.wanted.Wanted.TheVariants as wanted
-use Rattle.slot_store.specs.Layout.{place_of, header_of, IsHalf, IsBlank, IsJournal, HoldsRecords}
+use Rattle.slot_store.specs.Layout.{place_of, header_of, IsHalf, IsBlank, IsJournal, HasRecords}
 use Rattle.slot_store.specs.Opening.{IsOpening, IsOpened, Is}
 use Rattle.slot_store.specs.Gates.{is_wanted}
 use Rattle.slot_store.specs.Gates.{NoneIs, IsFirst}
@@ -86,13 +86,13 @@ formatted slots digest bytes seen image rest blank kept gate stands =
     empty : IsHalf slots 0 image []
     empty = record {
       fits = omega arith;
-      held = λ slot under. absurd (omega arith);
+      filled = λ slot under. absurd (omega arith);
       closed = λ slot low high opened.
           let zero_gate : image (place_of slots 0 slot) ≡ 0 = kept (place_of slots 0 slot) (omega arith) ∙ blank.gates 0 slot (omega arith) high in
           absurd (omega arith);
     }
 
-pub format_image : (slots : ℕ) (digest : List ℕ) (bytes : List ℕ) (seen image : ℕ → ℕ) → IsRest slots digest bytes → IsBlank slots seen [] → IsOpening seen 0 bytes image → HoldsRecords slots digest image []
+pub format_image : (slots : ℕ) (digest : List ℕ) (bytes : List ℕ) (seen image : ℕ → ℕ) → IsRest slots digest bytes → IsBlank slots seen [] → IsOpening seen 0 bytes image → HasRecords slots digest image []
 format_image slots digest bytes seen image rest blank opening = elim (cases_eq (image 0) 165) [
   | inl opened ↦ inr (formatted slots digest bytes seen image rest blank kept opened (stands opened opening.gate)).0
   | inr closed ↦ inl (record {
@@ -114,14 +114,14 @@ format_image slots digest bytes seen image rest blank opening = elim (cases_eq (
 
 -- ---- the calls
 
-pub format_reads : (start new : Option Media) (slots : ℕ) (digest : List ℕ) (seen : ℕ → ℕ) → KeepsMedia start new → RestsWith start (Is seen) → IsBlank slots seen [] → Leaves start new (λ image. HoldsRecords slots digest image [])
-format_reads start new slots digest seen keeps rests blank = leaves_unchanged start new seen (λ image. HoldsRecords slots digest image []) keeps rests (inl blank)
+pub format_reads : (start new : Option Media) (slots : ℕ) (digest : List ℕ) (seen : ℕ → ℕ) → KeepsMedia start new → RestsWith start (Is seen) → IsBlank slots seen [] → Leaves start new (λ image. HasRecords slots digest image [])
+format_reads start new slots digest seen keeps rests blank = leaves_unchanged start new seen (λ image. HasRecords slots digest image []) keeps rests (inl blank)
 
 pub format_leaves : (start between new : Option Media) (slots : ℕ) (digest : List ℕ) (bytes : List ℕ) (seen : ℕ → ℕ) → IsRest slots digest bytes → KeepsMedia start between → ((seen : ℕ → ℕ) → RestsWith between (Is seen) → Leaves between new (IsOpening seen 0 bytes))
-    → RestsWith start (Is seen) → IsBlank slots seen [] → Leaves start new (λ image. HoldsRecords slots digest image [])
+    → RestsWith start (Is seen) → IsBlank slots seen [] → Leaves start new (λ image. HasRecords slots digest image [])
 format_leaves start between new slots digest bytes seen rest keeps moments rests blank =
-    leaves_then start between new (λ image. HoldsRecords slots digest image []) (format_reads start between slots digest seen keeps rests blank)
-    (leaves_as between new (IsOpening seen 0 bytes) (λ image. HoldsRecords slots digest image []) (λ image opening. format_image slots digest bytes seen image rest blank opening) (moments seen (rests_unchanged start between (Is seen) keeps rests)))
+    leaves_then start between new (λ image. HasRecords slots digest image []) (format_reads start between slots digest seen keeps rests blank)
+    (leaves_as between new (IsOpening seen 0 bytes) (λ image. HasRecords slots digest image []) (λ image opening. format_image slots digest bytes seen image rest blank opening) (moments seen (rests_unchanged start between (Is seen) keeps rests)))
 
 pub format_rests : (start between new : Option Media) (slots : ℕ) (digest : List ℕ) (bytes : List ℕ) (seen : ℕ → ℕ) → IsRest slots digest bytes → KeepsMedia start between → ((seen : ℕ → ℕ) → RestsWith between (Is seen) → RestsWith new (IsOpened seen 0 bytes))
     → RestsWith start (Is seen) → IsBlank slots seen [] → RestsWith new (λ image. IsJournal slots digest image [] × (image 48 ≡ 0))

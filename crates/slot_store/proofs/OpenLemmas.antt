@@ -7,7 +7,7 @@ use Rattle.dots_disk.specs.Becoming.{Becomes, MayBecome, Stays, KeepsMedia, Leav
 use Rattle.dots_disk.proofs.WrittenLemmas.{byte_of_bytes_at}
 use Rattle.slot_store.specs.declared.fault.OpenFault.{OpenFault}
 use Rattle.slot_store.specs.declared.fault.OpenFault.TheVariants as fault
-use Rattle.slot_store.specs.Layout.{IsHeader, IsBlank, IsJournal, HoldsRecords}
+use Rattle.slot_store.specs.Layout.{IsHeader, IsBlank, IsJournal, HasRecords}
 use Rattle.slot_store.specs.Opening.{Is}
 use Rattle.slot_store.specs.Gates.{Sees}
 use Rattle.slot_store.specs.Refusing.{Fits, FirstWrong, IsForm, IsOtherHeader, RefusesHeader, RefusesGates, RefusesDisk, Refuses, IsOpen, front, rest, size}
@@ -112,20 +112,20 @@ header_seen slots digest seen found read is place low other = sym (found_byte se
 
 -- ---- what is held stays held
 
-pub holds_still : (start new : Option Media) (slots : ℕ) (digest : List ℕ) (seen : ℕ → ℕ) (records : List (List ℕ)) → Leaves start new (Is seen) → HoldsRecords slots digest seen records → Leaves start new (λ image. HoldsRecords slots digest image records)
-holds_still start new slots digest seen records leaves holds = leaves_as start new (Is seen) (λ image. HoldsRecords slots digest image records) (λ image is. subst (λ image. HoldsRecords slots digest image records) (sym is) holds) leaves
+pub has_still : (start new : Option Media) (slots : ℕ) (digest : List ℕ) (seen : ℕ → ℕ) (records : List (List ℕ)) → Leaves start new (Is seen) → HasRecords slots digest seen records → Leaves start new (λ image. HasRecords slots digest image records)
+has_still start new slots digest seen records leaves image_has = leaves_as start new (Is seen) (λ image. HasRecords slots digest image records) (λ image is. subst (λ image. HasRecords slots digest image records) (sym is) image_has) leaves
 
 -- without an open header gate the list is empty
-pub holds_none : (slots : ℕ) (digest : List ℕ) (seen : ℕ → ℕ) (records : List (List ℕ)) → seen 0 ≢ 165 → HoldsRecords slots digest seen records → IsBlank slots seen [] × (records ≡ [])
-holds_none slots digest seen records gate (inl blank) = (record { gate = blank.gate; gates = blank.gates; none = refl }, blank.none)
-holds_none slots digest seen records gate (inr journal) = absurd (gate (gate_of_header slots digest seen journal.header))
+pub has_none : (slots : ℕ) (digest : List ℕ) (seen : ℕ → ℕ) (records : List (List ℕ)) → seen 0 ≢ 165 → HasRecords slots digest seen records → IsBlank slots seen [] × (records ≡ [])
+has_none slots digest seen records gate (inl blank) = (record { gate = blank.gate; gates = blank.gates; none = refl }, blank.none)
+has_none slots digest seen records gate (inr journal) = absurd (gate (gate_of_header slots digest seen journal.header))
 
-pub holds_formatted : (start between new : Option Media) (slots : ℕ) (digest : List ℕ) (seen : ℕ → ℕ) (records : List (List ℕ)) → Leaves start between (Is seen) → seen 0 ≢ 165 → HoldsRecords slots digest seen records
-    → (IsBlank slots seen [] → Leaves between new (λ image. HoldsRecords slots digest image [])) → Leaves start new (λ image. HoldsRecords slots digest image records)
-holds_formatted start between new slots digest seen records leaves gate holds moments =
-    let none = holds_none slots digest seen records gate holds in
-    leaves_then start between new (λ image. HoldsRecords slots digest image records) (holds_still start between slots digest seen records leaves holds)
-    (subst (λ records. Leaves between new (λ image. HoldsRecords slots digest image records)) (sym none.1) (moments none.0))
+pub has_formatted : (start between new : Option Media) (slots : ℕ) (digest : List ℕ) (seen : ℕ → ℕ) (records : List (List ℕ)) → Leaves start between (Is seen) → seen 0 ≢ 165 → HasRecords slots digest seen records
+    → (IsBlank slots seen [] → Leaves between new (λ image. HasRecords slots digest image [])) → Leaves start new (λ image. HasRecords slots digest image records)
+has_formatted start between new slots digest seen records leaves gate image_has moments =
+    let none = has_none slots digest seen records gate image_has in
+    leaves_then start between new (λ image. HasRecords slots digest image records) (has_still start between slots digest seen records leaves image_has)
+    (subst (λ records. Leaves between new (λ image. HasRecords slots digest image records)) (sym none.1) (moments none.0))
 
 pub open_formatted : (new : Option Media) (slots : ℕ) (digest : List ℕ) (seen : ℕ → ℕ) → IsBlank slots seen [] → RestsWith new (λ image. IsJournal slots digest image [] × (image 48 ≡ 0)) → RestsWith new (IsOpen slots digest seen 0)
 open_formatted new slots digest seen blank rests = rests_as new (λ image. IsJournal slots digest image [] × (image 48 ≡ 0)) (IsOpen slots digest seen 0) (λ image is. record { selector_there = is.1; cases = inr (blank, is.0) }) rests

@@ -3,27 +3,27 @@ use Rattle.std.proofs.Common.{◌≡◌, ◌≢◌, ℕ, ◌+◌, ◌%◌, ◌<�
 use Rattle.std.proofs.lemmas.List.{get_or_append_left, get_or_push, ext_get_or}
 use Rattle.std.proofs.lemmas.Bool.{cases_lt}
 use Rattle.dots_disk.specs.Media.{bytes_at}
-use Rattle.slot_store.specs.Layout.{place_of, IsHeader, IsSlot, IsHalf, IsJournal, HoldsRecords}
+use Rattle.slot_store.specs.Layout.{place_of, IsHeader, IsSlot, IsHalf, IsJournal, HasRecords}
 use Rattle.slot_store.proofs.Places.{Agree, same_header, same_slot}
 
 -- the half in use of another image, with the slots of its records as they were and no other gate open
 pub same_half : (slots half : ℕ) (old new : ℕ → ℕ) (records : List (List ℕ)) → ((slot : ℕ) → slot < length records → Agree old new (place_of slots half slot) 8192)
     → ((slot : ℕ) → length records ≤ slot → slot < slots → new (place_of slots half slot) ≢ 165) → IsHalf slots half old records → IsHalf slots half new records
-same_half slots half old new records held closed is = record {
+same_half slots half old new records filled closed is = record {
   fits = is.fits;
-  held = λ slot under. same_slot old new (place_of slots half slot) (place_of slots half slot) (get_or records slot []) (λ offset within. held slot under (place_of slots half slot + offset) (omega arith) (omega arith)) (is.held slot under);
+  filled = λ slot under. same_slot old new (place_of slots half slot) (place_of slots half slot) (get_or records slot []) (λ offset within. filled slot under (place_of slots half slot + offset) (omega arith) (omega arith)) (is.filled slot under);
   closed = closed;
 }
 
 pub journal_same : (slots : ℕ) (digest : List ℕ) (old new : ℕ → ℕ) (records : List (List ℕ)) → Agree old new 0 64
     → ((slot : ℕ) → slot < length records → Agree old new (place_of slots (old 48 % 2) slot) 8192)
     → ((slot : ℕ) → length records ≤ slot → slot < slots → new (place_of slots (old 48 % 2) slot) ≢ 165) → IsJournal slots digest old records → IsJournal slots digest new records
-journal_same slots digest old new records front held closed is =
+journal_same slots digest old new records front filled closed is =
     let selector : new 48 ≡ old 48 = front 48 (omega arith) (omega arith) in
     let half : old 48 % 2 ≡ new 48 % 2 = ap (λ n. n % 2) (sym selector) in
     record {
       header = same_header slots digest old new front is.header;
-      half = subst (λ half. IsHalf slots half new records) half (same_half slots (old 48 % 2) old new records held closed is.half);
+      half = subst (λ half. IsHalf slots half new records) half (same_half slots (old 48 % 2) old new records filled closed is.half);
     }
 
 -- one record more
@@ -31,17 +31,17 @@ pub half_more : (slots half : ℕ) (image : ℕ → ℕ) (records : List (List �
     → ((slot : ℕ) → slot < length records → IsSlot image (place_of slots half slot) (get_or records slot []))
     → IsSlot image (place_of slots half (length records)) added
     → ((slot : ℕ) → length records < slot → slot < slots → image (place_of slots half slot) ≢ 165) → IsHalf slots half image (records ++ added ∷ [])
-half_more slots half image records added room held last closed =
+half_more slots half image records added room filled last closed =
     let more : length (records ++ added ∷ []) ≡ length records + 1 = length-append records (added ∷ []) in
     record {
       fits = omega arith;
-      held = λ slot under. slot_of slot (omega arith);
+      filled = λ slot under. slot_of slot (omega arith);
       closed = λ slot low high. closed slot (omega arith) high;
     }
   where
     slot_of : (slot : ℕ) → slot < length records + 1 → IsSlot image (place_of slots half slot) (get_or (records ++ added ∷ []) slot [])
     slot_of slot under = elim (cases_lt slot (length records)) [
-      | inl below ↦ subst (IsSlot image (place_of slots half slot)) (sym (get_or_append_left records (added ∷ []) [] slot below)) (held slot below)
+      | inl below ↦ subst (IsSlot image (place_of slots half slot)) (sym (get_or_append_left records (added ∷ []) [] slot below)) (filled slot below)
       | inr above ↦
           let is : length records ≡ slot = omega arith in
           subst (IsSlot image (place_of slots half slot)) (sym (get_or_push records added [] slot is)) (subst (λ slot. IsSlot image (place_of slots half slot) added) is last)
@@ -59,7 +59,7 @@ no_longer slots half image first second a b longer =
     let fits = b.fits in
     let room : length first < slots = omega arith in
     let same : length first ≤ length first = omega arith in
-    a.closed (length first) same room (b.held (length first) longer).gate
+    a.closed (length first) same room (b.filled (length first) longer).gate
 
 pub one_half : (slots half : ℕ) (image : ℕ → ℕ) (first second : List (List ℕ)) → IsHalf slots half image first → IsHalf slots half image second → first ≡ second
 one_half slots half image first second a b =
@@ -68,7 +68,7 @@ one_half slots half image first second a b =
     let same : length first ≡ length second = same_length below above in
     ext_get_or [] first second same (λ slot under.
     let other : slot < length second = omega arith in
-    one_record image (place_of slots half slot) _ _ (a.held slot under) (b.held slot other))
+    one_record image (place_of slots half slot) _ _ (a.filled slot under) (b.filled slot other))
   where
     same_length : (length first < length second → ⊥) → (length second < length first → ⊥) → length first ≡ length second
     same_length below above = elim (cases_lt (length first) (length second)) [
@@ -82,7 +82,7 @@ one_half slots half image first second a b =
 pub gate_of_header : (slots : ℕ) (digest : List ℕ) (image : ℕ → ℕ) → IsHeader slots digest image → image 0 ≡ 165
 gate_of_header slots digest image is = is 0 (omega arith) (omega arith)
 
-pub one_list : (slots : ℕ) (digest : List ℕ) (image : ℕ → ℕ) (first second : List (List ℕ)) → HoldsRecords slots digest image first → HoldsRecords slots digest image second → first ≡ second
+pub one_list : (slots : ℕ) (digest : List ℕ) (image : ℕ → ℕ) (first second : List (List ℕ)) → HasRecords slots digest image first → HasRecords slots digest image second → first ≡ second
 one_list slots digest image first second (inl a) (inl b) = a.none ∙ sym b.none
 one_list slots digest image first second (inl a) (inr b) = absurd (a.gate (gate_of_header slots digest image b.header))
 one_list slots digest image first second (inr a) (inl b) = absurd (b.gate (gate_of_header slots digest image a.header))

@@ -4,7 +4,7 @@ use Rattle.std.proofs.lemmas.List.{length_push}
 use Rattle.dots_disk.specs.Media.{Media}
 use Rattle.dots_disk.specs.Becoming.{Leaves, RestsWith}
 use Rattle.slot_store.specs.Layout.{place_of, needed_of}
-use Rattle.slot_store.specs.StoreValues.{JournalValue, RepresentsRecords, HoldsEither, sized}
+use Rattle.slot_store.specs.StoreValues.{JournalValue, RepresentsRecords, HasEither, sized}
 use Rattle.slot_store.specs.Opening.{IsOpening, IsOpened, Is}
 use Rattle.slot_store.proofs.Steps.{leaves_as, seen_at_rest, rests_as}
 use Rattle.slot_store.proofs.Appending.{behind_header, either, one_more}
@@ -22,13 +22,13 @@ next_place store digest records seen at is stands = is ∙ ap (λ n. place_of st
 
 pub append_leaves : (start new : Option Media) (store : JournalValue) (digest : List ℕ) (records : List (List ℕ)) (added : List ℕ) (at : ℕ) (piece : List ℕ) → store.used < store.slots → length added ≤ 8189
     → at ≡ place_of store.slots (store.selector % 2) store.used → piece ≡ sized added → ((seen : ℕ → ℕ) → RestsWith start (Is seen) → Leaves start new (IsOpening seen at piece))
-    → RestsWith start (RepresentsRecords store digest records) → Leaves start new (HoldsEither store.slots digest records (records ++ added ∷ []))
+    → RestsWith start (RepresentsRecords store digest records) → Leaves start new (HasEither store.slots digest records (records ++ added ∷ []))
 append_leaves start new store digest records added at piece room fits place bytes moments rests =
     let found = seen_at_rest start (RepresentsRecords store digest records) rests in
-    leaves_as start new (IsOpening found.0 at piece) (HoldsEither store.slots digest records (records ++ added ∷ [])) (holds found.0 found.2) (moments found.0 found.1)
+    leaves_as start new (IsOpening found.0 at piece) (HasEither store.slots digest records (records ++ added ∷ [])) (image_has found.0 found.2) (moments found.0 found.1)
   where
-    holds : (seen : ℕ → ℕ) → RepresentsRecords store digest records seen → (image : ℕ → ℕ) → IsOpening seen at piece image → HoldsEither store.slots digest records (records ++ added ∷ []) image
-    holds seen stands image opening =
+    image_has : (seen : ℕ → ℕ) → RepresentsRecords store digest records seen → (image : ℕ → ℕ) → IsOpening seen at piece image → HasEither store.slots digest records (records ++ added ∷ []) image
+    image_has seen stands image opening =
         let used = stands.used in
         let space : length records < store.slots = omega arith in
         let sized_opening : IsOpening seen at (sized added) image = subst (λ piece. IsOpening seen at piece image) bytes opening in
@@ -39,10 +39,10 @@ pub append_rests : (start new : Option Media) (store : JournalValue) (digest : L
     → RestsWith start (RepresentsRecords store digest records) → RestsWith new (RepresentsRecords (record store { used = store.used + 1 }) digest (records ++ added ∷ []))
 append_rests start new store digest records added at piece room fits place bytes opened rests =
     let found = seen_at_rest start (RepresentsRecords store digest records) rests in
-    rests_as new (IsOpened found.0 at piece) (RepresentsRecords (record store { used = store.used + 1 }) digest (records ++ added ∷ [])) (holds found.0 found.2) (opened found.0 found.1)
+    rests_as new (IsOpened found.0 at piece) (RepresentsRecords (record store { used = store.used + 1 }) digest (records ++ added ∷ [])) (image_has found.0 found.2) (opened found.0 found.1)
   where
-    holds : (seen : ℕ → ℕ) → RepresentsRecords store digest records seen → (image : ℕ → ℕ) → IsOpened seen at piece image → RepresentsRecords (record store { used = store.used + 1 }) digest (records ++ added ∷ []) image
-    holds seen stands image is =
+    image_has : (seen : ℕ → ℕ) → RepresentsRecords store digest records seen → (image : ℕ → ℕ) → IsOpened seen at piece image → RepresentsRecords (record store { used = store.used + 1 }) digest (records ++ added ∷ []) image
+    image_has seen stands image is =
         let used = stands.used in
         let space : length records < store.slots = omega arith in
         let here = next_place store digest records seen at place stands in

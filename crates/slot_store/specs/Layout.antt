@@ -20,16 +20,16 @@ abbrev pub IsHeader : ℕ → List ℕ → (ℕ → ℕ) → Type 0
 IsHeader slots digest image = (place : ℕ) → place < 64 → place ≢ 48 → image place ≡ byte_of (header_of slots digest) place
 
 -- a slot with an open gate, and this record in it
-pub record IsSlot (image : ℕ → ℕ) (at : ℕ) (held : List ℕ) : Type 0 where
+pub record IsSlot (image : ℕ → ℕ) (at : ℕ) (filled : List ℕ) : Type 0 where
   pub gate : image at ≡ 165
-  pub fits : length held ≤ 8189
-  pub size : 256 * image (at + 1) + image (at + 2) ≡ length held
-  pub bytes : bytes_at image (at + 3) (length held) ≡ held
+  pub fits : length filled ≤ 8189
+  pub size : 256 * image (at + 1) + image (at + 2) ≡ length filled
+  pub bytes : bytes_at image (at + 3) (length filled) ≡ filled
 
 -- a half holds these records, in its first slots, and the gate of no other slot is open
 pub record IsHalf (slots half : ℕ) (image : ℕ → ℕ) (records : List (List ℕ)) : Type 0 where
   pub fits : length records ≤ slots
-  pub held : (slot : ℕ) → slot < length records → IsSlot image (place_of slots half slot) (slice_index_or records slot [])
+  pub filled : (slot : ℕ) → slot < length records → IsSlot image (place_of slots half slot) (slice_index_or records slot [])
   pub closed : (slot : ℕ) → length records ≤ slot → slot < slots → image (place_of slots half slot) ≢ 165
 
 -- a formatted disk, whose half in use holds these records
@@ -44,5 +44,5 @@ pub record IsBlank (slots : ℕ) (image : ℕ → ℕ) (records : List (List ℕ
   pub none : records ≡ []
 
 -- the records that an image of a disk holds, under settings with this number of slots and this digest
-abbrev pub HoldsRecords : ℕ → List ℕ → (ℕ → ℕ) → List (List ℕ) → Type 0
-HoldsRecords slots digest image records = IsBlank slots image records ⊎ IsJournal slots digest image records
+abbrev pub HasRecords : ℕ → List ℕ → (ℕ → ℕ) → List (List ℕ) → Type 0
+HasRecords slots digest image records = IsBlank slots image records ⊎ IsJournal slots digest image records

@@ -1,7 +1,7 @@
 -- What a journal in memory knows of its disk.
 use Rattle.std.specs.Prelude.{◌≡◌, ℕ, ◌+◌, ◌*◌, ◌/◌, ◌%◌, ◌<◌, ◌≤◌, ◌⊎◌, List, ◌∷◌, length, take, drop, Option, Some, None}
 use Rattle.dots_disk.specs.Media.{bytes_at}
-use Rattle.slot_store.specs.Layout.{IsJournal, HoldsRecords}
+use Rattle.slot_store.specs.Layout.{IsJournal, HasRecords}
 use Rattle.slot_store.specs.Refusing.{IsOpen, IsCount}
 
 -- The number of slots of a half, the selector, and how many slots of the half in use hold a record.
@@ -22,8 +22,8 @@ pub record IsKnown (store : JournalValue) (digest : List ℕ) (seen image : ℕ 
   pub count : IsCount store.slots (store.selector % 2) image store.used
 
 -- one list of records, or another
-abbrev pub HoldsEither : ℕ → List ℕ → List (List ℕ) → List (List ℕ) → (ℕ → ℕ) → Type 0
-HoldsEither slots digest first second image = HoldsRecords slots digest image first ⊎ HoldsRecords slots digest image second
+abbrev pub HasEither : ℕ → List ℕ → List (List ℕ) → List (List ℕ) → (ℕ → ℕ) → Type 0
+HasEither slots digest first second image = HasRecords slots digest image first ⊎ HasRecords slots digest image second
 
 -- a record with its length in two bytes before it
 abbrev pub sized : List ℕ → List ℕ

@@ -4,7 +4,7 @@ ghost use Rattle.std.specs.Prelude.{◌≡◌, ◌≢◌, ℕ, ◌+◌, ◌*◌,
 ghost use Rattle.dots_host.specs.Causes.{HasCause};
 ghost use Rattle.dots_disk.specs.Media.{bytes_at};
 ghost use Rattle.dots_disk.specs.Becoming.{KeepsMedia, Leaves, RestsWith};
-ghost use Rattle.slot_store.specs.Layout.{needed_of, header_of, place_of, IsBlank, IsJournal, HoldsRecords};
+ghost use Rattle.slot_store.specs.Layout.{needed_of, header_of, place_of, IsBlank, IsJournal, HasRecords};
 ghost use Rattle.slot_store.specs.Opening.{Is};
 ghost use Rattle.slot_store.specs.Gates.{Sees};
 ghost use Rattle.slot_store.specs.Refusing.{RefusesGates, RefusesDisk, IsOpen, Caused};
@@ -44,7 +44,7 @@ pub fn format<D: Disk>(disk: &mut D, slots: u32, digest: &[u8; 32]) -> Result<()
 
     // The disk held no record, and holds none at each moment.
     ensures moments { (seen : ℕ → ℕ) → RestsWith (D.media disk.old) (Is seen) → IsBlank slots seen [] →
-        Leaves (D.media disk.old) (D.media disk.new) (λ image. HoldsRecords slots digest.now image []) }
+        Leaves (D.media disk.old) (D.media disk.new) (λ image. HasRecords slots digest.now image []) }
     ensures blank { OnOk result ((seen : ℕ → ℕ) → RestsWith (D.media disk.old) (Is seen) → seen 0 ≢ 165 → IsBlank slots seen []) }
     ensures formatted { OnOk result ((seen : ℕ → ℕ) → RestsWith (D.media disk.old) (Is seen) → seen 0 ≢ 165 →
         RestsWith (D.media disk.new) (λ image. IsJournal slots digest.now image [] × (image 48 ≡ 0))) }
@@ -87,8 +87,8 @@ fn open_found<D: Disk>(
 ) -> Result<u8, OpenFault>
     requires { needed_of slots ≤ D.extent disk.old }
     ensures moments { (seen : ℕ → ℕ) (records : List (List ℕ)) → RestsWith (D.media disk.old) (Is seen) →
-        found.now ≡ bytes_at seen 0 64 → HoldsRecords slots digest.now seen records →
-        Leaves (D.media disk.old) (D.media disk.new) (λ image. HoldsRecords slots digest.now image records) }
+        found.now ≡ bytes_at seen 0 64 → HasRecords slots digest.now seen records →
+        Leaves (D.media disk.old) (D.media disk.new) (λ image. HasRecords slots digest.now image records) }
     ensures opened { IfOk result (λ selector. (seen : ℕ → ℕ) → RestsWith (D.media disk.old) (Is seen) →
         found.now ≡ bytes_at seen 0 64 → RestsWith (D.media disk.new) (IsOpen slots digest.now seen selector)) }
     ensures refused { IfErr result (λ fault. (seen : ℕ → ℕ) → RestsWith (D.media disk.old) (Is seen) →
@@ -113,8 +113,8 @@ pub fn open_header<D: Disk>(disk: &mut D, slots: u32, digest: &[u8; 32]) -> Resu
 
     // A disk on which nothing was pending holds the same list at each moment.
     ensures moments { (seen : ℕ → ℕ) (records : List (List ℕ)) → RestsWith (D.media disk.old) (Is seen) →
-        HoldsRecords slots digest.now seen records →
-        Leaves (D.media disk.old) (D.media disk.new) (λ image. HoldsRecords slots digest.now image records) }
+        HasRecords slots digest.now seen records →
+        Leaves (D.media disk.old) (D.media disk.new) (λ image. HasRecords slots digest.now image records) }
     ensures opened { IfOk result (λ selector. (seen : ℕ → ℕ) → Sees (D.media disk.old) seen →
         RestsWith (D.media disk.new) (IsOpen slots digest.now seen selector)) }
     ensures refused { IfErr result (λ fault. (seen : ℕ → ℕ) → Sees (D.media disk.old) seen →

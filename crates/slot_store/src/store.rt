@@ -1,11 +1,11 @@
 ghost use Rattle.std.specs.Prelude.{◌≡◌, ◌≢◌, ℕ, ◌+◌, ◌*◌, ◌%◌, ◌<◌, ◌≤◌, List, [], ◌∷◌, ◌++◌, length, IfOk, IfErr, OnOk, OnErr};
 ghost use Rattle.dots_host.specs.Causes.{HasCause};
 ghost use Rattle.dots_disk.specs.Becoming.{Leaves, RestsWith};
-ghost use Rattle.slot_store.specs.Layout.{place_of, needed_of, HoldsRecords};
+ghost use Rattle.slot_store.specs.Layout.{place_of, needed_of, HasRecords};
 ghost use Rattle.slot_store.specs.Opening.{Is};
 ghost use Rattle.slot_store.specs.Gates.{Sees};
 ghost use Rattle.slot_store.specs.Refusing.{Refuses, Caused};
-ghost use Rattle.slot_store.specs.StoreValues.{RepresentsRecords, IsKnown, HoldsEither};
+ghost use Rattle.slot_store.specs.StoreValues.{RepresentsRecords, IsKnown, HasEither};
 ghost use Rattle.slot_store.specs.Copying.{AreSlots, kept_of, other_selector};
 
 use crate::copying::move_half;
@@ -54,12 +54,12 @@ impl SlotStore {
     ) -> Result<Self, OpenFault>
         // A disk on which nothing was pending holds the same list at each moment.
         ensures moments { (seen : ℕ → ℕ) (records : List (List ℕ)) → RestsWith (D.media disk.old) (Is seen) →
-            HoldsRecords slots digest.now seen records →
-            Leaves (D.media disk.old) (D.media disk.new) (λ image. HoldsRecords slots digest.now image records) }
+            HasRecords slots digest.now seen records →
+            Leaves (D.media disk.old) (D.media disk.new) (λ image. HasRecords slots digest.now image records) }
 
         // In the end it represents the list that the disk held.
         ensures opened { IfOk result (λ store. (seen : ℕ → ℕ) (records : List (List ℕ)) → Sees (D.media disk.old) seen →
-            HoldsRecords slots digest.now seen records → RestsWith (D.media disk.new) (RepresentsRecords store digest.now records)) }
+            HasRecords slots digest.now seen records → RestsWith (D.media disk.new) (RepresentsRecords store digest.now records)) }
         ensures size { IfOk result (λ store. (store.slots ≡ slots) × (needed_of slots ≤ D.extent disk.new)) }
         ensures known { IfOk result (λ store. (seen : ℕ → ℕ) → Sees (D.media disk.old) seen →
             RestsWith (D.media disk.new) (IsKnown store digest.now seen)) }
@@ -130,7 +130,7 @@ impl SlotStore {
         ensures moments { (digest : List ℕ) (records : List (List ℕ)) →
             RestsWith (D.media disk.old) (RepresentsRecords self.old digest records) →
             Leaves (D.media disk.old) (D.media disk.new)
-            (HoldsEither self.old.slots digest records (records ++ bytes.now ∷ [])) }
+            (HasEither self.old.slots digest records (records ++ bytes.now ∷ [])) }
         ensures rests { OnOk result ((digest : List ℕ) (records : List (List ℕ)) →
             RestsWith (D.media disk.old) (RepresentsRecords self.old digest records) →
             RestsWith (D.media disk.new) (RepresentsRecords self.new digest (records ++ bytes.now ∷ []))) }
@@ -167,7 +167,7 @@ impl SlotStore {
         ensures moments { (digest : List ℕ) (records : List (List ℕ)) →
             RestsWith (D.media disk.old) (RepresentsRecords self.old digest records) →
             Leaves (D.media disk.old) (D.media disk.new)
-            (HoldsEither self.old.slots digest records (kept_of records keep.now)) }
+            (HasEither self.old.slots digest records (kept_of records keep.now)) }
         ensures rests { OnOk result ((digest : List ℕ) (records : List (List ℕ)) →
             RestsWith (D.media disk.old) (RepresentsRecords self.old digest records) →
             RestsWith (D.media disk.new) (RepresentsRecords self.new digest (kept_of records keep.now))) }

@@ -10,9 +10,9 @@ use Rattle.dots_settings.specs.declared.peer.Role.TheVariants as roles
 use Rattle.stream_table.specs.declared.seat.Seat.{Seat}
 use Rattle.stream_table.specs.declared.seat.Seat.TheVariants.{Older, Newer}
 use Rattle.stream_table.specs.declared.place.LinePlace.{LinePlace}
-use Rattle.stream_table.specs.Lines.{Line, PeerLines, is_number, is_of, all_lines, no_lines_as, no_lines, emptied, others, forgotten, has_room, row_opened, with_row, opened, line_holding, row_holding, holding, has_number, peer_in, peer_of}
+use Rattle.stream_table.specs.Lines.{Line, PeerLines, is_number, is_of, all_lines, no_lines_as, no_lines, emptied, others, forgotten, has_room, row_opened, with_row, opened, line_buffering, row_buffering, buffering, has_number, peer_in, peer_of}
 use Rattle.stream_table.specs.Numbers.{line_in}
-use Rattle.stream_table.specs.Places.{line_of_row, line_at, conn_of, conn_at, AreApart, IsAt, NowHolds, with_line, held_by, row_with, with_place}
+use Rattle.stream_table.specs.Places.{line_of_row, line_at, conn_of, conn_at, AreApart, IsAt, NowBuffers, with_line, buffered_by, row_with, with_place}
 use Rattle.stream_table.proofs.Placing.{one_there}
 
 -- how many lines have the number
@@ -102,9 +102,9 @@ apart_forgotten gone rows apart conn = let a = apart conn in let f = fewer conn 
 one_more : (conn new : ℕ) (row : PeerLines) → times conn (row_opened new row).lines ≤ times conn row.lines + one_if (new == conn)
 one_more conn new row = by_room (has_room row)
   where
-    by_room : (b : Bool) → times conn (cond b (record { peer = row.peer; lines = row.lines ++ record { conn = new; held = [] } ∷ [] }) row).lines
+    by_room : (b : Bool) → times conn (cond b (record { peer = row.peer; lines = row.lines ++ record { conn = new; buffered = [] } ∷ [] }) row).lines
         ≤ times conn row.lines + one_if (new == conn)
-    by_room true = let n = sum_by_push (λ l. cond (is_number conn l) 1 0) row.lines (record { conn = new; held = [] }) in omega (arith, n)
+    by_room true = let n = sum_by_push (λ l. cond (is_number conn l) 1 0) row.lines (record { conn = new; buffered = [] }) in omega (arith, n)
     by_room false = omega arith
 
 more_at_most : (conn new peer : ℕ) (rows : List PeerLines)
@@ -143,20 +143,20 @@ apart_opened peer new rows apart conn = elim (cases_eq new conn) [ inl same ↦ 
 
 -- ---- bytes that come or go
 
-same_times_in : (conn : ℕ) (seat : Seat) (becomes : List ℕ → List ℕ) (lines : List Line) → times conn (with_line seat (held_by becomes) lines) ≡ times conn lines
+same_times_in : (conn : ℕ) (seat : Seat) (becomes : List ℕ → List ℕ) (lines : List Line) → times conn (with_line seat (buffered_by becomes) lines) ≡ times conn lines
 same_times_in conn seat becomes [] = refl
-same_times_in conn Older becomes (line ∷ lines) = times_cons conn (held_by becomes line) lines ∙ sym (times_cons conn line lines)
+same_times_in conn Older becomes (line ∷ lines) = times_cons conn (buffered_by becomes line) lines ∙ sym (times_cons conn line lines)
 same_times_in conn Newer becomes (line ∷ []) = refl
 same_times_in conn Newer becomes (line ∷ next ∷ lines) =
-    times_cons conn line (held_by becomes next ∷ lines)
-    ∙ ap (λ n. one_if (is_number conn line) + n) (times_cons conn (held_by becomes next) lines ∙ sym (times_cons conn next lines))
+    times_cons conn line (buffered_by becomes next ∷ lines)
+    ∙ ap (λ n. one_if (is_number conn line) + n) (times_cons conn (buffered_by becomes next) lines ∙ sym (times_cons conn next lines))
     ∙ sym (times_cons conn line (next ∷ lines))
 
 same_times : (conn i : ℕ) (seat : Seat) (becomes : List ℕ → List ℕ) (rows : List PeerLines)
     → times conn (all_lines (with_place i (row_with seat becomes) rows)) ≡ times conn (all_lines rows)
 same_times conn i seat becomes [] = refl
 same_times conn zero seat becomes (row ∷ rows) =
-    times_append conn (with_line seat (held_by becomes) row.lines) (all_lines rows)
+    times_append conn (with_line seat (buffered_by becomes) row.lines) (all_lines rows)
     ∙ ap (λ n. n + times conn (all_lines rows)) (same_times_in conn seat becomes row.lines)
     ∙ sym (times_append conn row.lines (all_lines rows))
 same_times conn (suc i) seat becomes (row ∷ rows) =
@@ -176,32 +176,32 @@ not_here conn line lines n most least = by_test (is_number conn line) (times_con
     by_test true is = absurd (omega (arith, is, most, least))
     by_test false is = refl
 
-still : (conn : ℕ) (becomes : List ℕ → List ℕ) (line : Line) → is_number conn line ≡ false → line_holding conn becomes line ≡ line
-still conn becomes line other = cond-false (is_number conn line) (held_by becomes line) line other
+still : (conn : ℕ) (becomes : List ℕ → List ℕ) (line : Line) → is_number conn line ≡ false → line_buffering conn becomes line ≡ line
+still conn becomes line other = cond-false (is_number conn line) (buffered_by becomes line) line other
 
-all_still : (conn : ℕ) (becomes : List ℕ → List ℕ) (lines : List Line) → times conn lines ≡ 0 → map (line_holding conn becomes) lines ≡ lines
+all_still : (conn : ℕ) (becomes : List ℕ → List ℕ) (lines : List Line) → times conn lines ≡ 0 → map (line_buffering conn becomes) lines ≡ lines
 all_still conn becomes [] none = refl
 all_still conn becomes (line ∷ lines) none = by_test (is_number conn line) refl (times_cons conn line lines) (all_still conn becomes lines)
   where
     by_test : (b : Bool) → is_number conn line ≡ b → times conn (line ∷ lines) ≡ one_if b + times conn lines
-        → (times conn lines ≡ 0 → map (line_holding conn becomes) lines ≡ lines) → line_holding conn becomes line ∷ map (line_holding conn becomes) lines ≡ line ∷ lines
+        → (times conn lines ≡ 0 → map (line_buffering conn becomes) lines ≡ lines) → line_buffering conn becomes line ∷ map (line_buffering conn becomes) lines ≡ line ∷ lines
     by_test true is n rest = absurd (omega (arith, none, n))
     by_test false is n rest =
-        ap (λ l. l ∷ map (line_holding conn becomes) lines) (still conn becomes line is)
+        ap (λ l. l ∷ map (line_buffering conn becomes) lines) (still conn becomes line is)
         ∙ ap (λ ls. line ∷ ls) (rest (omega (arith, none, n)))
 
-row_still : (conn : ℕ) (becomes : List ℕ → List ℕ) (row : PeerLines) → times conn row.lines ≡ 0 → row_holding conn becomes row ≡ row
+row_still : (conn : ℕ) (becomes : List ℕ → List ℕ) (row : PeerLines) → times conn row.lines ≡ 0 → row_buffering conn becomes row ≡ row
 row_still conn becomes row none = ap (of_lines row.peer) (all_still conn becomes row.lines none)
 
-rows_still : (conn : ℕ) (becomes : List ℕ → List ℕ) (rows : List PeerLines) → times conn (all_lines rows) ≡ 0 → holding conn becomes rows ≡ rows
+rows_still : (conn : ℕ) (becomes : List ℕ → List ℕ) (rows : List PeerLines) → times conn (all_lines rows) ≡ 0 → buffering conn becomes rows ≡ rows
 rows_still conn becomes [] none = refl
 rows_still conn becomes (row ∷ rows) none =
     let a = times_append conn row.lines (all_lines rows) in
-    ap (λ r. r ∷ holding conn becomes rows) (row_still conn becomes row (omega (arith, none, a)))
+    ap (λ r. r ∷ buffering conn becomes rows) (row_still conn becomes row (omega (arith, none, a)))
     ∙ ap (λ rs. row ∷ rs) (rows_still conn becomes rows (omega (arith, none, a)))
 
-becomes_own : (becomes : List ℕ → List ℕ) (line : Line) → line_holding line.conn becomes line ≡ held_by becomes line
-becomes_own becomes line = cond-true (is_number line.conn line) (held_by becomes line) line (own line)
+becomes_own : (becomes : List ℕ → List ℕ) (line : Line) → line_buffering line.conn becomes line ≡ buffered_by becomes line
+becomes_own becomes line = cond-true (is_number line.conn line) (buffered_by becomes line) line (own line)
 
 -- a line that stands there counts
 pub counts_in : (seat : Seat) (lines : List Line) (line : Line) → line_in seat lines ≡ Some line → 1 ≤ times line.conn lines
@@ -230,14 +230,14 @@ counts (suc i) seat (row ∷ rows) line there =
     omega (arith, a, c)
 
 placed_in : (seat : Seat) (becomes : List ℕ → List ℕ) (lines : List Line) (line : Line) → line_in seat lines ≡ Some line → times line.conn lines ≤ 1
-    → with_line seat (held_by becomes) lines ≡ map (line_holding line.conn becomes) lines
+    → with_line seat (buffered_by becomes) lines ≡ map (line_buffering line.conn becomes) lines
 placed_in seat becomes [] line there most = refl
 placed_in Older becomes (l ∷ lines) line there most =
     let same = one_there l line there in
     let n = times_cons line.conn l lines in
     let o = ap one_if (ap (is_number line.conn) same ∙ own line) in
-    ap (λ x. x ∷ lines) (ap (held_by becomes) same ∙ sym (becomes_own becomes line) ∙ ap (line_holding line.conn becomes) (sym same))
-    ∙ ap (λ xs. line_holding line.conn becomes l ∷ xs) (sym (all_still line.conn becomes lines (omega (arith, most, n, o))))
+    ap (λ x. x ∷ lines) (ap (buffered_by becomes) same ∙ sym (becomes_own becomes line) ∙ ap (line_buffering line.conn becomes) (sym same))
+    ∙ ap (λ xs. line_buffering line.conn becomes l ∷ xs) (sym (all_still line.conn becomes lines (omega (arith, most, n, o))))
 placed_in Newer becomes (l ∷ []) line there most = cc there
 placed_in Newer becomes (l ∷ next ∷ lines) line there most =
     let same = one_there next line there in
@@ -245,33 +245,33 @@ placed_in Newer becomes (l ∷ next ∷ lines) line there most =
     let n = times_cons line.conn next lines in
     let o = ap one_if (ap (is_number line.conn) same ∙ own line) in
     let before = not_here line.conn l (next ∷ lines) 0 (omega (arith, most)) (omega (arith, n, o)) in
-    ap (λ x. x ∷ held_by becomes next ∷ lines) (sym (still line.conn becomes l before))
-    ∙ ap (λ x. line_holding line.conn becomes l ∷ x ∷ lines) (ap (held_by becomes) same ∙ sym (becomes_own becomes line) ∙ ap (line_holding line.conn becomes) (sym same))
-    ∙ ap (λ xs. line_holding line.conn becomes l ∷ line_holding line.conn becomes next ∷ xs) (sym (all_still line.conn becomes lines (omega (arith, most, m, n, o))))
+    ap (λ x. x ∷ buffered_by becomes next ∷ lines) (sym (still line.conn becomes l before))
+    ∙ ap (λ x. line_buffering line.conn becomes l ∷ x ∷ lines) (ap (buffered_by becomes) same ∙ sym (becomes_own becomes line) ∙ ap (line_buffering line.conn becomes) (sym same))
+    ∙ ap (λ xs. line_buffering line.conn becomes l ∷ line_buffering line.conn becomes next ∷ xs) (sym (all_still line.conn becomes lines (omega (arith, most, m, n, o))))
 
 placed_all : (i : ℕ) (seat : Seat) (becomes : List ℕ → List ℕ) (rows : List PeerLines) (line : Line) → option_and_then (line_of_row seat) (slice_get rows i) ≡ Some line
-    → times line.conn (all_lines rows) ≤ 1 → with_place i (row_with seat becomes) rows ≡ holding line.conn becomes rows
+    → times line.conn (all_lines rows) ≤ 1 → with_place i (row_with seat becomes) rows ≡ buffering line.conn becomes rows
 placed_all i seat becomes [] line there most = refl
 placed_all zero seat becomes (row ∷ rows) line there most =
     let a = times_append line.conn row.lines (all_lines rows) in
     let c = counts_in seat row.lines line there in
     ap (λ ls. of_lines row.peer ls ∷ rows) (placed_in seat becomes row.lines line there (omega (arith, a, most)))
-    ∙ ap (λ rs. row_holding line.conn becomes row ∷ rs) (sym (rows_still line.conn becomes rows (omega (arith, a, c, most))))
+    ∙ ap (λ rs. row_buffering line.conn becomes row ∷ rs) (sym (rows_still line.conn becomes rows (omega (arith, a, c, most))))
 placed_all (suc i) seat becomes (row ∷ rows) line there most =
     let a = times_append line.conn row.lines (all_lines rows) in
     let c = counts i seat rows line there in
     ap (λ r. r ∷ with_place i (row_with seat becomes) rows) (sym (row_still line.conn becomes row (omega (arith, a, c, most))))
-    ∙ ap (λ rs. row_holding line.conn becomes row ∷ rs) (placed_all i seat becomes rows line there (omega (arith, a, most)))
+    ∙ ap (λ rs. row_buffering line.conn becomes row ∷ rs) (placed_all i seat becomes rows line there (omega (arith, a, most)))
 
 there_in : (seat : Seat) (becomes : List ℕ → List ℕ) (lines : List Line) (line : Line) → line_in seat lines ≡ Some line
-    → line_in seat (with_line seat (held_by becomes) lines) ≡ Some (held_by becomes line)
+    → line_in seat (with_line seat (buffered_by becomes) lines) ≡ Some (buffered_by becomes line)
 there_in seat becomes [] line there = cc there
-there_in Older becomes (l ∷ lines) line there = ap (λ x. Some (held_by becomes x)) (one_there l line there)
+there_in Older becomes (l ∷ lines) line there = ap (λ x. Some (buffered_by becomes x)) (one_there l line there)
 there_in Newer becomes (l ∷ []) line there = cc there
-there_in Newer becomes (l ∷ next ∷ lines) line there = ap (λ x. Some (held_by becomes x)) (one_there next line there)
+there_in Newer becomes (l ∷ next ∷ lines) line there = ap (λ x. Some (buffered_by becomes x)) (one_there next line there)
 
 there_then : (i : ℕ) (seat : Seat) (becomes : List ℕ → List ℕ) (rows : List PeerLines) (line : Line) → option_and_then (line_of_row seat) (slice_get rows i) ≡ Some line
-    → option_and_then (line_of_row seat) (slice_get (with_place i (row_with seat becomes) rows) i) ≡ Some (held_by becomes line)
+    → option_and_then (line_of_row seat) (slice_get (with_place i (row_with seat becomes) rows) i) ≡ Some (buffered_by becomes line)
 there_then i seat becomes [] line there = cc there
 there_then zero seat becomes (row ∷ rows) line there = there_in seat becomes row.lines line there
 there_then (suc i) seat becomes (row ∷ rows) line there = there_then i seat becomes rows line there
@@ -381,14 +381,14 @@ is_at_by conn place rows (Some line) apart there is =
 pub is_at : (conn : ℕ) (place : LinePlace) (rows : List PeerLines) → AreApart rows → conn_at place rows ≡ Some conn → IsAt conn place rows
 is_at conn place rows apart is = is_at_by conn place rows (line_at place rows) apart refl is
 
-pub holds_placed : (place : LinePlace) (becomes : List ℕ → List ℕ) (rows old new : List PeerLines) → rows ≡ old → new ≡ with_place place.row (row_with place.seat becomes) rows → AreApart rows
-    → (line : Line) → line_at place old ≡ Some line → NowHolds place becomes old new line
-holds_placed place becomes rows old new same is apart line there =
+pub buffers_placed : (place : LinePlace) (becomes : List ℕ → List ℕ) (rows old new : List PeerLines) → rows ≡ old → new ≡ with_place place.row (row_with place.seat becomes) rows → AreApart rows
+    → (line : Line) → line_at place old ≡ Some line → NowBuffers place becomes old new line
+buffers_placed place becomes rows old new same is apart line there =
     let here = ap (line_at place) same ∙ there in
     let then = ap (line_at place) is ∙ there_then place.row place.seat becomes rows line here in
     let still = subst AreApart (sym is) (apart_placed place.row place.seat becomes rows apart) in
     record {
       there = then;
-      found = found_at place.row place.seat new (held_by becomes line) then (still line.conn);
-      all = is ∙ placed_all place.row place.seat becomes rows line here (apart line.conn) ∙ ap (holding line.conn becomes) same;
+      found = found_at place.row place.seat new (buffered_by becomes line) then (still line.conn);
+      all = is ∙ placed_all place.row place.seat becomes rows line here (apart line.conn) ∙ ap (buffering line.conn becomes) same;
     }

@@ -9,7 +9,7 @@ use Rattle.dots_settings.specs.declared.peer.Role.{Role}
 use Rattle.dots_settings.specs.declared.peer.Role.TheVariants as roles
 use Rattle.dots_settings.specs.Settings.{SettingsValue, IsKnown, IsSettings}
 use Rattle.dots_settings.specs.Lookups.{role_of}
-use Rattle.stream_table.specs.Lines.{Line, PeerLines, is_number, is_of, all_lines, has_number, peer_in, peer_of, no_lines_as, no_lines, AreOf, IsClientOf, emptied, row_opened, has_room, forgotten, with_row, opened, holding}
+use Rattle.stream_table.specs.Lines.{Line, PeerLines, is_number, is_of, all_lines, has_number, peer_in, peer_of, no_lines_as, no_lines, AreOf, IsClientOf, emptied, row_opened, has_room, forgotten, with_row, opened, buffering}
 use Rattle.stream_table.proofs.Placing.{one_there}
 
 -- ---- the rows stay
@@ -22,14 +22,14 @@ peers_forgotten : (conn : ℕ) (rows : List PeerLines) → map peer_in (forgotte
 peers_forgotten conn [] = refl
 peers_forgotten conn (row ∷ rows) = ap (λ (ps : List ℕ). row.peer ∷ ps) (peers_forgotten conn rows)
 
-peers_holding : (conn : ℕ) (becomes : List ℕ → List ℕ) (rows : List PeerLines) → map peer_in (holding conn becomes rows) ≡ map peer_in rows
+peers_holding : (conn : ℕ) (becomes : List ℕ → List ℕ) (rows : List PeerLines) → map peer_in (buffering conn becomes rows) ≡ map peer_in rows
 peers_holding conn becomes [] = refl
 peers_holding conn becomes (row ∷ rows) = ap (λ (ps : List ℕ). row.peer ∷ ps) (peers_holding conn becomes rows)
 
 peer_opened : (conn : ℕ) (row : PeerLines) → (row_opened conn row).peer ≡ row.peer
 peer_opened conn row = by_room (has_room row)
   where
-    by_room : (b : Bool) → (cond b (record { peer = row.peer; lines = row.lines ++ record { conn = conn; held = [] } ∷ [] }) row).peer ≡ row.peer
+    by_room : (b : Bool) → (cond b (record { peer = row.peer; lines = row.lines ++ record { conn = conn; buffered = [] } ∷ [] }) row).peer ≡ row.peer
     by_room true = refl
     by_room false = refl
 
@@ -54,8 +54,8 @@ forgotten_of peers conn rows are = peers_forgotten conn rows ∙ are
 pub opened_of : (peers : List PeerRow) (peer conn : ℕ) (rows : List PeerLines) → AreOf peers rows → AreOf peers (opened peer conn rows)
 opened_of peers peer conn rows are = peers_opened peer conn (forgotten conn rows) ∙ peers_forgotten conn rows ∙ are
 
-pub holding_of : (peers : List PeerRow) (conn : ℕ) (becomes : List ℕ → List ℕ) (rows : List PeerLines) → AreOf peers rows → AreOf peers (holding conn becomes rows)
-holding_of peers conn becomes rows are = peers_holding conn becomes rows ∙ are
+pub buffering_of : (peers : List PeerRow) (conn : ℕ) (becomes : List ℕ → List ℕ) (rows : List PeerLines) → AreOf peers rows → AreOf peers (buffering conn becomes rows)
+buffering_of peers conn becomes rows are = peers_holding conn becomes rows ∙ are
 
 -- ---- a row that has a connection
 

@@ -1,4 +1,4 @@
 pub mod Placing
 pub mod Apart
 pub mod Clients
-pub mod Holding
+pub mod Buffering

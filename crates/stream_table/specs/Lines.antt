@@ -12,7 +12,7 @@ use Rattle.stream_table.specs.declared.refused.Refused.TheVariants.{Stranger, Th
 -- an open connection by its number, and the bytes of it that came and aren't answered yet
 pub record Line : Type 0 where
   pub conn : ℕ
-  pub held : List ℕ
+  pub buffered : List ℕ
 
 -- a client peer with its connections, in the order in which they were opened
 pub record PeerLines : Type 0 where
@@ -92,7 +92,7 @@ has_room row = nat_lt (length row.lines) 2
 
 abbrev pub row_opened : ℕ → PeerLines → PeerLines
 row_opened conn row =
-    if has_room row then record { peer = row.peer; lines = row.lines ++ record { conn = conn; held = [] } ∷ [] } else row
+    if has_room row then record { peer = row.peer; lines = row.lines ++ record { conn = conn; buffered = [] } ∷ [] } else row
 
 -- the row of this peer becomes another, and the others are as they were
 abbrev pub with_row : ℕ → (PeerLines → PeerLines) → List PeerLines → List PeerLines
@@ -113,12 +113,12 @@ opening peer conn rows = taken_in (find (is_of peer) (forgotten conn rows))
 
 -- ---- bytes that come or are answered
 
-abbrev pub line_holding : ℕ → (List ℕ → List ℕ) → Line → Line
-line_holding conn becomes line = if is_number conn line then record { conn = line.conn; held = becomes line.held } else line
+abbrev pub line_buffering : ℕ → (List ℕ → List ℕ) → Line → Line
+line_buffering conn becomes line = if is_number conn line then record { conn = line.conn; buffered = becomes line.buffered } else line
 
-abbrev pub row_holding : ℕ → (List ℕ → List ℕ) → PeerLines → PeerLines
-row_holding conn becomes row = record { peer = row.peer; lines = map (line_holding conn becomes) row.lines }
+abbrev pub row_buffering : ℕ → (List ℕ → List ℕ) → PeerLines → PeerLines
+row_buffering conn becomes row = record { peer = row.peer; lines = map (line_buffering conn becomes) row.lines }
 
 -- what is held of the connection of this number becomes other bytes, and all else is as it was
-abbrev pub holding : ℕ → (List ℕ → List ℕ) → List PeerLines → List PeerLines
-holding conn becomes rows = map (row_holding conn becomes) rows
+abbrev pub buffering : ℕ → (List ℕ → List ℕ) → List PeerLines → List PeerLines
+buffering conn becomes rows = map (row_buffering conn becomes) rows

@@ -9,8 +9,8 @@ use Rattle.stream_table.specs.Lines.{Line}
 -- the lines of so many connections, where the first two places hold these bytes
 abbrev pub numbered_lines : Numbers → List ℕ → List ℕ → List Line
 numbered_lines numbers.Free older newer = []
-numbered_lines (numbers.One first) older newer = record { conn = first; held = older } ∷ []
-numbered_lines (numbers.Two first second) older newer = record { conn = first; held = older } ∷ record { conn = second; held = newer } ∷ []
+numbered_lines (numbers.One first) older newer = record { conn = first; buffered = older } ∷ []
+numbered_lines (numbers.Two first second) older newer = record { conn = first; buffered = older } ∷ record { conn = second; buffered = newer } ∷ []
 
 -- the line at a place of a row
 abbrev pub line_in : Seat → List Line → Option Line

@@ -3,7 +3,7 @@ use Rattle.std.specs.Prelude.{◌≡◌, ℕ, zero, suc, ◌≤◌, List, [], �
 use Rattle.stream_table.specs.declared.seat.Seat.{Seat}
 use Rattle.stream_table.specs.declared.seat.Seat.TheVariants.{Older, Newer}
 use Rattle.stream_table.specs.declared.place.LinePlace.{LinePlace}
-use Rattle.stream_table.specs.Lines.{Line, PeerLines, is_number, all_lines, line_of, holding}
+use Rattle.stream_table.specs.Lines.{Line, PeerLines, is_number, all_lines, line_of, buffering}
 use Rattle.stream_table.specs.Numbers.{line_in}
 
 abbrev pub line_of_row : Seat → PeerLines → Option Line
@@ -24,8 +24,8 @@ abbrev pub AreApart : List PeerLines → Type 0
 AreApart rows = (conn : ℕ) → count_by (is_number conn) (all_lines rows) ≤ 1
 
 -- other bytes are held
-abbrev pub held_by : (List ℕ → List ℕ) → Line → Line
-held_by becomes line = record { conn = line.conn; held = becomes line.held }
+abbrev pub buffered_by : (List ℕ → List ℕ) → Line → Line
+buffered_by becomes line = record { conn = line.conn; buffered = becomes line.buffered }
 
 -- the connection of this number stands at this place, and it is the only one of the number
 pub record IsAt (conn : ℕ) (place : LinePlace) (rows : List PeerLines) : Type 0 where
@@ -35,14 +35,14 @@ pub record IsAt (conn : ℕ) (place : LinePlace) (rows : List PeerLines) : Type 
   pub found : line_of conn rows ≡ Some line
 
 -- of the connection that stood at this place other bytes are held then, and all else is as it was
-pub record NowHolds (place : LinePlace) (becomes : List ℕ → List ℕ) (old new : List PeerLines) (line : Line) : Type 0 where
-  pub there : line_at place new ≡ Some (held_by becomes line)
-  pub found : line_of line.conn new ≡ Some (held_by becomes line)
-  pub all : new ≡ holding line.conn becomes old
+pub record NowBuffers (place : LinePlace) (becomes : List ℕ → List ℕ) (old new : List PeerLines) (line : Line) : Type 0 where
+  pub there : line_at place new ≡ Some (buffered_by becomes line)
+  pub found : line_of line.conn new ≡ Some (buffered_by becomes line)
+  pub all : new ≡ buffering line.conn becomes old
 
 -- bytes come behind those that are held
 abbrev pub with_more : List ℕ → List ℕ → List ℕ
-with_more bytes held = held ++ bytes
+with_more bytes buffered = buffered ++ bytes
 
 -- ---- at a place, in the forms of the code
 
@@ -54,7 +54,7 @@ with_line Newer becomes (line ∷ []) = line ∷ []
 with_line Newer becomes (line ∷ next ∷ lines) = line ∷ becomes next ∷ lines
 
 abbrev pub row_with : Seat → (List ℕ → List ℕ) → PeerLines → PeerLines
-row_with seat becomes row = record { peer = row.peer; lines = with_line seat (held_by becomes) row.lines }
+row_with seat becomes row = record { peer = row.peer; lines = with_line seat (buffered_by becomes) row.lines }
 
 -- the row at a place becomes another, and the others are as they were
 abbrev pub with_place : ℕ → (PeerLines → PeerLines) → List PeerLines → List PeerLines

@@ -3,7 +3,7 @@
 ghost use Rattle.std.specs.Prelude.{◌≡◌, ℕ, List, flat_map, Some};
 ghost use Rattle.dots_settings.specs.declared.peer.PeerRow.{PeerRow};
 ghost use Rattle.dots_settings.specs.Settings.{SettingsValue, IsSettings};
-ghost use Rattle.stream_table.specs.Lines.{Line, PeerLines, no_lines, AreOf, IsClientOf, emptied, forgotten, opened, holding, line_of, peer_of};
+ghost use Rattle.stream_table.specs.Lines.{Line, PeerLines, no_lines, AreOf, IsClientOf, emptied, forgotten, opened, buffering, line_of, peer_of};
 
 /// There is a row for each client of the settings, in their order: so it is at the start, and so it stays, whatever is opened, forgotten or held.
 pub fn each_client_has_a_row()
@@ -11,7 +11,7 @@ pub fn each_client_has_a_row()
     ensures emptied { (peers : List PeerRow) (rows : List PeerLines) → AreOf peers rows → AreOf peers (emptied rows) }
     ensures forgotten { (peers : List PeerRow) (conn : ℕ) (rows : List PeerLines) → AreOf peers rows → AreOf peers (forgotten conn rows) }
     ensures opened { (peers : List PeerRow) (peer conn : ℕ) (rows : List PeerLines) → AreOf peers rows → AreOf peers (opened peer conn rows) }
-    ensures holding { (peers : List PeerRow) (conn : ℕ) (becomes : List ℕ → List ℕ) (rows : List PeerLines) → AreOf peers rows → AreOf peers (holding conn becomes rows) }
+    ensures buffering { (peers : List PeerRow) (conn : ℕ) (becomes : List ℕ → List ℕ) (rows : List PeerLines) → AreOf peers rows → AreOf peers (buffering conn becomes rows) }
 {}
 
 /// Where that is so, each connection is of a client: its peer is one of the settings, for a domain of theirs.

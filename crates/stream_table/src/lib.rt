@@ -5,13 +5,13 @@
 //! [`StreamTable::forget`] lets one go. [`StreamTable::place`] finds a connection by its number; at the place [`StreamTable::stream`]
 //! lends what is held, for a reader of requests, and [`StreamTable::discard`] drops the bytes of a request that is answered.
 //!
-//! What holds the bytes is any [`Holds`]. Only [`StreamTable::new`] takes memory, that of two streams for each client peer: a connection
+//! What holds the bytes is any [`Buffers`]. Only [`StreamTable::new`] takes memory, that of two streams for each client peer: a connection
 //! that is opened finds its stream made.
 //!
 //! [`laws`] say that each row is of a client. Contracts see a table as the list of its rows. Start reading at `specs/Lines.antt`.
 #![tactic(auto)]
 
-mod holds;
+mod buffers;
 pub mod laws;
 mod numbers;
 mod place;
@@ -20,7 +20,7 @@ mod row;
 mod seat;
 mod table;
 
-pub use holds::Holds;
+pub use buffers::Buffers;
 pub use place::LinePlace;
 pub use refused::Refused;
 pub use table::StreamTable;

@@ -6,7 +6,7 @@ ghost use Rattle.stream_table.specs.Lines.{Line, is_number, is_of, has_room, row
 ghost use Rattle.stream_table.specs.Numbers.{line_in};
 ghost use Rattle.stream_table.specs.Places.{conn_of, row_with, with_more};
 
-use crate::holds::Holds;
+use crate::buffers::Buffers;
 use crate::numbers::Numbers;
 use crate::seat::Seat;
 use dots_lists::NoMemory;
@@ -16,14 +16,14 @@ use std::mem;
 
 /// The connections of a client peer: at most two. Both streams are there from the start.
 #[derive(Drop)]
-pub struct Row<B: Holds> {
+pub struct Row<B: Buffers> {
     peer: u32,
     numbers: Numbers,
     older: B,
     newer: B,
 }
 
-impl<B: Holds> Model for Row<B> {
+impl<B: Buffers> Model for Row<B> {
     ghost use Rattle.stream_table.specs.Lines.{PeerLines};
     ghost use Rattle.stream_table.specs.Numbers.{numbered_lines};
 
@@ -32,7 +32,7 @@ impl<B: Holds> Model for Row<B> {
     ghost view = { λ row. record { peer = row.peer; lines = numbered_lines row.numbers (B.bytes row.older) (B.bytes row.newer) } };
 }
 
-impl<B: Holds + Drop> Row<B> {
+impl<B: Buffers + Drop> Row<B> {
     /// The row of a peer of which nothing is open.
     pub fn new(alloc: Global, peer: u32) -> Result<Self, NoMemory>
         ensures { IfOk result (λ row. row ≡ record { peer = peer; lines = [] }) }
@@ -123,7 +123,7 @@ impl<B: Holds + Drop> Row<B> {
     /// What is held of the connection at this place.
     pub fn stream(&self, seat: Seat) -> &B
         requires { is_some (line_in seat self.now.lines) ≡ true }
-        ensures { (line : Line) → line_in seat self.now.lines ≡ Some line → B.bytes result.now ≡ line.held }
+        ensures { (line : Line) → line_in seat self.now.lines ≡ Some line → B.bytes result.now ≡ line.buffered }
     {
         match seat {
             Seat::Older => &self.older,
@@ -134,7 +134,7 @@ impl<B: Holds + Drop> Row<B> {
     /// Takes as many bytes of a piece as the stream at this place has room for, and answers how many.
     pub fn take(&mut self, seat: Seat, piece: &[u8]) -> usize
         requires { is_some (line_in seat self.old.lines) ≡ true }
-        ensures count { (line : Line) → line_in seat self.old.lines ≡ Some line → result ≡ min (length piece.now) (B.most - length line.held) }
+        ensures count { (line : Line) → line_in seat self.old.lines ≡ Some line → result ≡ min (length piece.now) (B.most - length line.buffered) }
         ensures row { self.new ≡ row_with seat (with_more (take result piece.now)) self.old }
     {
         match seat {
@@ -145,7 +145,7 @@ impl<B: Holds + Drop> Row<B> {
 
     /// Drops bytes from the front of the stream at this place.
     pub fn discard(&mut self, seat: Seat, n: usize)
-        requires { (line : Line) × (line_in seat self.old.lines ≡ Some line) × (n ≤ length line.held) }
+        requires { (line : Line) × (line_in seat self.old.lines ≡ Some line) × (n ≤ length line.buffered) }
         ensures { self.new ≡ row_with seat (drop n) self.old }
     {
         match seat {

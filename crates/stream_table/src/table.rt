@@ -2,9 +2,9 @@
 
 ghost use Rattle.std.specs.Prelude.{◌≡◌, ℕ, ◌-◌, ◌<◌, ◌≤◌, ◌++◌, length, min, take, drop, map, find, flat_map, position, slice_get, option_map, is_some, true, Some, None, MatchOption, IfOk, OnOk};
 ghost use Rattle.stream_table.specs.Lines.{Line, is_of, no_lines, emptied, row_emptied, forgotten, row_forgotten, opened, opening, taken_in, with_row, row_opened, has_room, line_of, peer_in, peer_of};
-ghost use Rattle.stream_table.specs.Places.{line_at, conn_at, IsAt, NowHolds, row_with, with_place, with_more};
+ghost use Rattle.stream_table.specs.Places.{line_at, conn_at, IsAt, NowBuffers, row_with, with_place, with_more};
 
-use crate::holds::Holds;
+use crate::buffers::Buffers;
 use crate::place::LinePlace;
 use crate::refused::Refused;
 use crate::row::Row;
@@ -17,11 +17,11 @@ use std::marker::Model;
 ///
 /// A connection is found by going through the rows, of which there are at most 64.
 #[derive(Drop)]
-pub struct StreamTable<B: Holds> {
+pub struct StreamTable<B: Buffers> {
     rows: Vec<Row<B>>,
 }
 
-impl<B: Holds> Model for StreamTable<B> {
+impl<B: Buffers> Model for StreamTable<B> {
     ghost use Rattle.std.specs.Prelude.{List};
     ghost use Rattle.stream_table.specs.Lines.{PeerLines};
     ghost use Rattle.stream_table.specs.Places.{AreApart};
@@ -33,7 +33,7 @@ impl<B: Holds> Model for StreamTable<B> {
     ghost invariant = { λ table. AreApart table.rows.items };
 }
 
-impl<B: Holds + Drop> StreamTable<B> {
+impl<B: Buffers + Drop> StreamTable<B> {
     /// A row for each client of the settings, in their order; nothing is open. This is the only call that takes memory, that of two
     /// streams for each client.
     pub fn new(alloc: Global, settings: &Settings) -> Result<Self, NoMemory>
@@ -91,7 +91,7 @@ impl<B: Holds + Drop> StreamTable<B> {
     /// What is held of the connection at this place.
     pub fn stream(&self, place: LinePlace) -> &B
         requires { is_some (conn_at place self.now) ≡ true }
-        ensures { (line : Line) → line_at place self.now ≡ Some line → B.bytes result.now ≡ line.held }
+        ensures { (line : Line) → line_at place self.now ≡ Some line → B.bytes result.now ≡ line.buffered }
     {
         stream_in(&self.rows, place)
     }
@@ -99,23 +99,23 @@ impl<B: Holds + Drop> StreamTable<B> {
     /// Takes as many bytes of a piece as there is room for at this place, and answers how many. Takes no memory.
     pub fn take(&mut self, place: LinePlace, piece: &[u8]) -> usize
         requires { is_some (conn_at place self.old) ≡ true }
-        ensures count { (line : Line) → line_at place self.old ≡ Some line → result ≡ min (length piece.now) (B.most - length line.held) }
+        ensures count { (line : Line) → line_at place self.old ≡ Some line → result ≡ min (length piece.now) (B.most - length line.buffered) }
         ensures held { (line : Line) → line_at place self.old ≡ Some line
-            → NowHolds place (with_more (take result piece.now)) self.old self.new line }
+            → NowBuffers place (with_more (take result piece.now)) self.old self.new line }
     {
         take_in(&mut self.rows, place, piece)
     }
 
     /// Drops bytes from the front of what is held at this place, those of a request that is answered. Takes no memory.
     pub fn discard(&mut self, place: LinePlace, n: usize)
-        requires { (line : Line) × (line_at place self.old ≡ Some line) × (n ≤ length line.held) }
-        ensures { (line : Line) → line_at place self.old ≡ Some line → NowHolds place (drop n) self.old self.new line }
+        requires { (line : Line) × (line_at place self.old ≡ Some line) × (n ≤ length line.buffered) }
+        ensures { (line : Line) → line_at place self.old ≡ Some line → NowBuffers place (drop n) self.old self.new line }
     {
         discard_in(&mut self.rows, place, n);
     }
 }
 
-fn empty_rows<B: Holds + Drop>(alloc: Global, settings: &Settings) -> Result<Vec<Row<B>>, NoMemory>
+fn empty_rows<B: Buffers + Drop>(alloc: Global, settings: &Settings) -> Result<Vec<Row<B>>, NoMemory>
     ensures { IfOk result (λ rows. rows.items ≡ flat_map no_lines settings.now.peers) }
 {
     let mut rows = Vec::new(alloc);
@@ -126,7 +126,7 @@ fn empty_rows<B: Holds + Drop>(alloc: Global, settings: &Settings) -> Result<Vec
 }
 
 /// Puts a row for the peer behind the others where it is a client.
-fn add_client<B: Holds + Drop>(
+fn add_client<B: Buffers + Drop>(
     alloc: Global,
     rows: &mut Vec<Row<B>>,
     peer: &PeerRow,
@@ -141,13 +141,13 @@ fn add_client<B: Holds + Drop>(
     Ok(())
 }
 
-fn forget_in<B: Holds + Drop>(rows: &mut Vec<Row<B>>, conn: u32)
+fn forget_in<B: Buffers + Drop>(rows: &mut Vec<Row<B>>, conn: u32)
     ensures { rows.new.items ≡ forgotten conn rows.old.items }
 {
     forget_all(rows.as_mut_slice(), conn);
 }
 
-fn forget_all<B: Holds + Drop>(rows: &mut [Row<B>], conn: u32)
+fn forget_all<B: Buffers + Drop>(rows: &mut [Row<B>], conn: u32)
     ensures { rows.new ≡ map (row_forgotten conn) rows.old }
 {
     for row in rows.iter_mut() {
@@ -155,13 +155,13 @@ fn forget_all<B: Holds + Drop>(rows: &mut [Row<B>], conn: u32)
     }
 }
 
-fn clear_in<B: Holds + Drop>(rows: &mut Vec<Row<B>>)
+fn clear_in<B: Buffers + Drop>(rows: &mut Vec<Row<B>>)
     ensures { rows.new.items ≡ emptied rows.old.items }
 {
     clear_all(rows.as_mut_slice());
 }
 
-fn clear_all<B: Holds + Drop>(rows: &mut [Row<B>])
+fn clear_all<B: Buffers + Drop>(rows: &mut [Row<B>])
     ensures { rows.new ≡ map row_emptied rows.old }
 {
     for row in rows.iter_mut() {
@@ -170,7 +170,7 @@ fn clear_all<B: Holds + Drop>(rows: &mut [Row<B>])
 }
 
 /// Opens a connection whose number no row has.
-fn open_in<B: Holds + Drop>(rows: &mut Vec<Row<B>>, peer: u32, conn: u32) -> Result<(), Refused>
+fn open_in<B: Buffers + Drop>(rows: &mut Vec<Row<B>>, peer: u32, conn: u32) -> Result<(), Refused>
     ensures answer { result ≡ taken_in (find (is_of peer) rows.old.items) }
     ensures rows { rows.new.items ≡ with_row peer (row_opened conn) rows.old.items }
 {
@@ -184,13 +184,13 @@ fn open_in<B: Holds + Drop>(rows: &mut Vec<Row<B>>, peer: u32, conn: u32) -> Res
 }
 
 /// Where the row of this peer stands.
-fn row_of<B: Holds + Drop>(rows: &[Row<B>], peer: u32) -> Option<usize>
+fn row_of<B: Buffers + Drop>(rows: &[Row<B>], peer: u32) -> Option<usize>
     ensures { result ≡ position (is_of peer) rows.now }
 {
     rows.iter().position(|row| row.is_of(peer))
 }
 
-fn open_at<B: Holds + Drop>(rows: &mut Vec<Row<B>>, at: usize, conn: u32) -> bool
+fn open_at<B: Buffers + Drop>(rows: &mut Vec<Row<B>>, at: usize, conn: u32) -> bool
     requires { at < length rows.old.items }
     ensures answer { Some result ≡ option_map has_room (slice_get rows.old.items at) }
     ensures rows { rows.new.items ≡ with_place at (row_opened conn) rows.old.items }
@@ -198,30 +198,30 @@ fn open_at<B: Holds + Drop>(rows: &mut Vec<Row<B>>, at: usize, conn: u32) -> boo
     rows[at].open(conn)
 }
 
-fn peer_at<B: Holds + Drop>(rows: &Vec<Row<B>>, place: LinePlace) -> u32
+fn peer_at<B: Buffers + Drop>(rows: &Vec<Row<B>>, place: LinePlace) -> u32
     requires { is_some (line_at place rows.now.items) ≡ true }
     ensures { option_map peer_in (slice_get rows.now.items place.row) ≡ Some result }
 {
     rows[place.row].peer()
 }
 
-fn stream_in<B: Holds + Drop>(rows: &Vec<Row<B>>, place: LinePlace) -> &B
+fn stream_in<B: Buffers + Drop>(rows: &Vec<Row<B>>, place: LinePlace) -> &B
     requires { is_some (line_at place rows.now.items) ≡ true }
-    ensures { (line : Line) → line_at place rows.now.items ≡ Some line → B.bytes result.now ≡ line.held }
+    ensures { (line : Line) → line_at place rows.now.items ≡ Some line → B.bytes result.now ≡ line.buffered }
 {
     rows[place.row].stream(place.seat)
 }
 
-fn take_in<B: Holds + Drop>(rows: &mut Vec<Row<B>>, place: LinePlace, piece: &[u8]) -> usize
+fn take_in<B: Buffers + Drop>(rows: &mut Vec<Row<B>>, place: LinePlace, piece: &[u8]) -> usize
     requires { is_some (line_at place rows.old.items) ≡ true }
-    ensures count { (line : Line) → line_at place rows.old.items ≡ Some line → result ≡ min (length piece.now) (B.most - length line.held) }
+    ensures count { (line : Line) → line_at place rows.old.items ≡ Some line → result ≡ min (length piece.now) (B.most - length line.buffered) }
     ensures rows { rows.new.items ≡ with_place place.row (row_with place.seat (with_more (take result piece.now))) rows.old.items }
 {
     rows[place.row].take(place.seat, piece)
 }
 
-fn discard_in<B: Holds + Drop>(rows: &mut Vec<Row<B>>, place: LinePlace, n: usize)
-    requires { (line : Line) × (line_at place rows.old.items ≡ Some line) × (n ≤ length line.held) }
+fn discard_in<B: Buffers + Drop>(rows: &mut Vec<Row<B>>, place: LinePlace, n: usize)
+    requires { (line : Line) × (line_at place rows.old.items ≡ Some line) × (n ≤ length line.buffered) }
     ensures { rows.new.items ≡ with_place place.row (row_with place.seat (drop n)) rows.old.items }
 {
     rows[place.row].discard(place.seat, n);

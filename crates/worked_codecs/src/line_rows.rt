@@ -6,7 +6,7 @@ use dots_host::MemorySource;
 use dots_lists::NoMemory;
 use dots_settings::{Settings, read_settings};
 use std::alloc::Global;
-use stream_table::{Holds, Refused, StreamTable};
+use stream_table::{Buffers, Refused, StreamTable};
 
 /// Peers 2 and 0 are clients, and peer 3 is a gateway.
 const SETTINGS: &[u8] =
@@ -31,7 +31,7 @@ const STEPS: [(u32, u32, char); 11] = [
 #[derive(Drop)]
 struct Nothing;
 
-impl Holds for Nothing {
+impl Buffers for Nothing {
     ghost bytes = { λ nothing. [] };
 
     ghost most = { 0 };

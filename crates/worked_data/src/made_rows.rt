@@ -3,8 +3,8 @@
 use data_channel::RestRequest;
 use dots_history::{Change, Entry};
 use dots_lists::{Bytes, Name};
-use rest_answers::{Caller, content_reply, entry_of, outcome_reply};
-use rest_judging::RestOutcome;
+use rest_answers::{Caller, content_reply, entry_of, decision_reply};
+use rest_judging::RestDecision;
 use std::alloc::Global;
 
 /// A POST that registers the client of this name.
@@ -16,7 +16,7 @@ fn posted(alloc: Global, cuid: &[u8]) -> Option<RestRequest> {
 /// The reply to a POST has where the client is (RFC 8040, section 4.4.1).
 fn is_located(alloc: Global) -> Option<bool> {
     let request = posted(alloc, b"a/b")?;
-    let reply = outcome_reply(alloc, true, &request, RestOutcome::Created);
+    let reply = decision_reply(alloc, true, &request, RestDecision::Created);
     drop(request);
     let reply = reply.ok()?;
     let mut bytes = [0; 1024];

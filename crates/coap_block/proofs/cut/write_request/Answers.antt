@@ -10,4 +10,4 @@ put_options-requires-clause-are c = front_are c.args.message.now.options _ which
 pub put_options-requires-clause-room : goal.put_options-requires-clause-room
 put_options-requires-clause-room c =
     let fits = chosen_fit which.PathAndQuery c.args.message.now.options c.options-options.result (length (options_bytes 0 c.args.message.now.options)) c.options-options.ensures.value c.options-options.ensures.are (omega arith) in
-    omega (arith, fits, spelling_size c.args.message.now, c.requires.size, ap (λ room. length room.held) c.clear.ensures, ap (λ room. room.most) c.clear.ensures)
+    omega (arith, fits, spelling_size c.args.message.now, c.requires.size, ap (λ room. length room.filled) c.clear.ensures, ap (λ room. room.most) c.clear.ensures)

@@ -8,5 +8,5 @@ use Rattle.coap_block.proofs.spelling.put_options.Goals as goal
 pub put_option-requires-clause-room : goal.put_option-requires-clause-room
 put_option-requires-clause-room c =
     let first = among_first c.args.which (record { number = c.in-Some.row.number; value = c.in-Some.row.value.now }) c.loop-row.options c.next.new.self c.in-Some.ensures.steps c.if-has.ensures in
-    let room = together_fit c.args.room.now.held (options_bytes c.args.previous (among c.args.which c.args.options.now)) c.args.room.now.most c.requires.room in
-    first_fits c.loop-row.room.held _ c.loop-row.previous c.loop-row.room.most _ _ _ first c.loop-row.invariant.text (omega (arith, room, c.loop-row.invariant.most))
+    let room = together_fit c.args.room.now.filled (options_bytes c.args.previous (among c.args.which c.args.options.now)) c.args.room.now.most c.requires.room in
+    first_fits c.loop-row.room.filled _ c.loop-row.previous c.loop-row.room.most _ _ _ first c.loop-row.invariant.text (omega (arith, room, c.loop-row.invariant.most))

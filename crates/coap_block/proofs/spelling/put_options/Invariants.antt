@@ -5,7 +5,7 @@ use Rattle.coap_block.proofs.spelling.put_options.Given as goal
 
 abbrev pub invariant-loop-row : goal.invariant-loop-row
 invariant-loop-row l = record {
-  text : l.room.held ++ options_bytes l.previous (among l.which l.options) ≡ l.fn.room.held ++ options_bytes l.fn.previous (among l.which l.fn.options);
+  text : l.room.filled ++ options_bytes l.previous (among l.which l.options) ≡ l.fn.room.filled ++ options_bytes l.fn.previous (among l.which l.fn.options);
   most : l.room.most ≡ l.fn.room.most;
   are : AreOptions l.previous (among l.which l.options);
   last : last_number l.previous (among l.which l.options) ≡ last_number l.fn.previous (among l.which l.fn.options);

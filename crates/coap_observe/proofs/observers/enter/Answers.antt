@@ -16,89 +16,89 @@ token_key-requires c = c.requires.chained
 
 pub register_again-requires : goal.register_again-requires
 register_again-requires c =
-    let rows = c.args.roll.now.rows in
-    let found = ap (λ token. first_key (is_token c.args.observer.peer token) rows) (sym c.bytes.ensures.value) ∙ sym c.in-Some.ensures in
-    (is_first (is_token c.args.observer.peer c.args.observer.token) rows c.in-Some.key c.requires.chained.apart found).has
+    let members = c.args.roll.now.members in
+    let found = ap (λ token. first_key (is_token c.args.observer.peer token) members) (sym c.bytes.ensures.value) ∙ sym c.in-Some.ensures in
+    (is_first (is_token c.args.observer.peer c.args.observer.token) members c.in-Some.key c.requires.chained.apart found).has
 
 pub push-key-requires : goal.push-key-requires
 push-key-requires c =
-    let rows = c.args.roll.now.rows in
-    let found = ap (λ token. first_key (is_token c.args.observer.peer token) rows) (sym c.bytes.ensures.value) ∙ sym c.in-None.ensures in
-    let none = none_first (is_token c.args.observer.peer c.args.observer.token) rows found in
-    let long = ap length (entered_last c.args.observer c.args.seen (observed_of rows) none) in
-    let more = length_last (registered_first c.args.observer c.args.seen) (observed_of rows) in
-    let size = length_observed rows in
+    let members = c.args.roll.now.members in
+    let found = ap (λ token. first_key (is_token c.args.observer.peer token) members) (sym c.bytes.ensures.value) ∙ sym c.in-None.ensures in
+    let none = none_first (is_token c.args.observer.peer c.args.observer.token) members found in
+    let long = ap length (entered_last c.args.observer c.args.seen (observed_of members) none) in
+    let more = length_last (registered_first c.args.observer c.args.seen) (observed_of members) in
+    let size = length_observed members in
     omega (arith, long, more, size, c.requires.fits)
 
 pub push-requires : goal.push-requires
 push-requires c =
-    let rows = c.args.roll.now.rows in
-    let found = ap (λ token. first_key (is_token c.args.observer.peer token) rows) (sym c.bytes.ensures.value) ∙ sym c.in-None.ensures in
-    let none = none_first (is_token c.args.observer.peer c.args.observer.token) rows found in
+    let members = c.args.roll.now.members in
+    let found = ap (λ token. first_key (is_token c.args.observer.peer token) members) (sym c.bytes.ensures.value) ∙ sym c.in-None.ensures in
+    let none = none_first (is_token c.args.observer.peer c.args.observer.token) members found in
     record {
-      room = room_for_last c.args.observer c.args.seen rows c.args.chains.now.chains none c.requires.chained c.requires.room;
+      room = room_for_last c.args.observer c.args.seen members c.args.chains.now.chains none c.requires.chained c.requires.room;
       below = omega (arith, c.push-key.ensures.below, c.requires.limit);
-      new = nowhere_new c.push-key.result rows c.args.chains.now.chains c.push-key.ensures.new c.requires.chained.within;
+      new = nowhere_new c.push-key.result members c.args.chains.now.chains c.push-key.ensures.new c.requires.chained.within;
     }
 
 pub returns-in-Some-clause-number : goal.returns-in-Some-clause-number
 returns-in-Some-clause-number c =
-    let rows = c.args.roll.now.rows in
+    let members = c.args.roll.now.members in
     let test = is_token c.args.observer.peer c.args.observer.token in
-    let found = ap (λ token. first_key (is_token c.args.observer.peer token) rows) (sym c.bytes.ensures.value) ∙ sym c.in-Some.ensures in
+    let found = ap (λ token. first_key (is_token c.args.observer.peer token) members) (sym c.bytes.ensures.value) ∙ sym c.in-Some.ensures in
     ap (λ o. unwrap_or o 1) c.register_again.ensures.number
-    ∙ ap (λ o. unwrap_or (option_map (λ (y : ObservedValue). y.number) o) 1) (first_own test rows c.in-Some.key c.requires.chained.apart found)
+    ∙ ap (λ o. unwrap_or (option_map (λ (y : ObservedValue). y.number) o) 1) (first_own test members c.in-Some.key c.requires.chained.apart found)
 
 pub returns-in-Some-clause-list : goal.returns-in-Some-clause-list
 returns-in-Some-clause-list c =
-    let rows = c.args.roll.now.rows in
-    let found = ap (λ token. first_key (is_token c.args.observer.peer token) rows) (sym c.bytes.ensures.value) ∙ sym c.in-Some.ensures in
-    ap (λ (r : RollValue). observed_of r.rows) c.register_again.ensures.again
-    ∙ entered_key c.args.observer c.args.seen rows c.in-Some.key c.requires.chained.apart found
+    let members = c.args.roll.now.members in
+    let found = ap (λ token. first_key (is_token c.args.observer.peer token) members) (sym c.bytes.ensures.value) ∙ sym c.in-Some.ensures in
+    ap (λ (r : RollValue). observed_of r.members) c.register_again.ensures.again
+    ∙ entered_key c.args.observer c.args.seen members c.in-Some.key c.requires.chained.apart found
 
 pub returns-in-Some-clause-chained : goal.returns-in-Some-clause-chained
 returns-in-Some-clause-chained c =
-    let rows = c.args.roll.now.rows in
+    let members = c.args.roll.now.members in
     let test = is_token c.args.observer.peer c.args.observer.token in
-    let found = ap (λ token. first_key (is_token c.args.observer.peer token) rows) (sym c.bytes.ensures.value) ∙ sym c.in-Some.ensures in
-    let first = is_first test rows c.in-Some.key c.requires.chained.apart found in
+    let found = ap (λ token. first_key (is_token c.args.observer.peer token) members) (sym c.bytes.ensures.value) ∙ sym c.in-Some.ensures in
+    let first = is_first test members c.in-Some.key c.requires.chained.apart found in
     let same_peer = sym (eqb-true first.one.observer.peer c.args.observer.peer (and_parts (first.one.observer.peer == c.args.observer.peer) (bytes_eq first.one.observer.token c.args.observer.token) first.passes).0) in
-    subst (λ (r : RollValue). AreChained c.args.chains.now.chains r.rows) (sym c.register_again.ensures.again)
-    (chained_with c.args.chains.now.chains rows c.in-Some.key (registered_again c.args.observer c.args.seen) first.one first.there same_peer c.requires.chained)
+    subst (λ (r : RollValue). AreChained c.args.chains.now.chains r.members) (sym c.register_again.ensures.again)
+    (chained_with c.args.chains.now.chains members c.in-Some.key (registered_again c.args.observer c.args.seen) first.one first.there same_peer c.requires.chained)
 
 pub returns-in-Some-clause-room : goal.returns-in-Some-clause-room
 returns-in-Some-clause-room c = same_room c.args.chains.now
 
 pub returns-in-None-clause-number : goal.returns-in-None-clause-number
 returns-in-None-clause-number c =
-    let rows = c.args.roll.now.rows in
+    let members = c.args.roll.now.members in
     let test = is_token c.args.observer.peer c.args.observer.token in
-    let found = ap (λ token. first_key (is_token c.args.observer.peer token) rows) (sym c.bytes.ensures.value) ∙ sym c.in-None.ensures in
-    sym (ap (λ o. unwrap_or (option_map (λ (y : ObservedValue). y.number) o) 1) (found_none test (observed_of rows) (none_first test rows found)))
+    let found = ap (λ token. first_key (is_token c.args.observer.peer token) members) (sym c.bytes.ensures.value) ∙ sym c.in-None.ensures in
+    sym (ap (λ o. unwrap_or (option_map (λ (y : ObservedValue). y.number) o) 1) (found_none test (observed_of members) (none_first test members found)))
 
 pub returns-in-None-clause-list : goal.returns-in-None-clause-list
 returns-in-None-clause-list c =
-    let rows = c.args.roll.now.rows in
+    let members = c.args.roll.now.members in
     let test = is_token c.args.observer.peer c.args.observer.token in
-    let found = ap (λ token. first_key (is_token c.args.observer.peer token) rows) (sym c.bytes.ensures.value) ∙ sym c.in-None.ensures in
-    ap (λ (r : RollValue). observed_of r.rows) c.push-key.ensures.last
-    ∙ observed_last (c.push-key.result, c.new.result) rows
-    ∙ ap (λ o. observed_of rows ++ o ∷ []) c.new.ensures
-    ∙ entered_last c.args.observer c.args.seen (observed_of rows) (none_first test rows found)
+    let found = ap (λ token. first_key (is_token c.args.observer.peer token) members) (sym c.bytes.ensures.value) ∙ sym c.in-None.ensures in
+    ap (λ (r : RollValue). observed_of r.members) c.push-key.ensures.last
+    ∙ observed_last (c.push-key.result, c.new.result) members
+    ∙ ap (λ o. observed_of members ++ o ∷ []) c.new.ensures
+    ∙ entered_last c.args.observer c.args.seen (observed_of members) (none_first test members found)
 
 pub returns-in-None-clause-chained : goal.returns-in-None-clause-chained
 returns-in-None-clause-chained c =
-    let rows = c.args.roll.now.rows in
+    let members = c.args.roll.now.members in
     let chains = c.args.chains.now.chains in
     let first = registered_first c.args.observer c.args.seen in
     let key = c.push-key.result in
-    let last = c.push-key.ensures.last ∙ ap (λ o. record { room = c.args.roll.now.room; rows = rows ++ (key, o) ∷ [] }) c.new.ensures in
-    let found = ap (λ token. first_key (is_token c.args.observer.peer token) rows) (sym c.bytes.ensures.value) ∙ sym c.in-None.ensures in
-    let none = none_first (is_token c.args.observer.peer c.args.observer.token) rows found in
-    let some = room_for_last c.args.observer c.args.seen rows chains none c.requires.chained c.requires.room in
-    subst (λ (v : ChainsValue). AreChained v.chains c.push-key.new.self.rows) (sym c.push.ensures)
-    (subst (λ (r : RollValue). AreChained (one_chained c.args.observer.peer key chains) r.rows) (sym last)
-    (chained_last chains rows key first c.push-key.ensures.new (omega (arith, some)) c.requires.chained))
+    let last = c.push-key.ensures.last ∙ ap (λ o. record { room = c.args.roll.now.room; members = members ++ (key, o) ∷ [] }) c.new.ensures in
+    let found = ap (λ token. first_key (is_token c.args.observer.peer token) members) (sym c.bytes.ensures.value) ∙ sym c.in-None.ensures in
+    let none = none_first (is_token c.args.observer.peer c.args.observer.token) members found in
+    let some = room_for_last c.args.observer c.args.seen members chains none c.requires.chained c.requires.room in
+    subst (λ (v : ChainsValue). AreChained v.chains c.push-key.new.self.members) (sym c.push.ensures)
+    (subst (λ (r : RollValue). AreChained (one_chained c.args.observer.peer key chains) r.members) (sym last)
+    (chained_last chains members key first c.push-key.ensures.new (omega (arith, some)) c.requires.chained))
 
 pub returns-in-None-clause-room : goal.returns-in-None-clause-room
 returns-in-None-clause-room c = record {

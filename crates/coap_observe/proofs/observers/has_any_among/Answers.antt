@@ -8,12 +8,12 @@ use Rattle.coap_observe.proofs.observers.has_any_among.Goals as goal
 
 pub returns-in-Nobody : goal.returns-in-Nobody
 returns-in-Nobody c =
-    let observed = observed_of c.args.roll.now.rows in
+    let observed = observed_of c.args.roll.now.members in
     sym (ap (λ among. list_any (includes_one among) observed) c.in-Nobody.is ∙ none_of_nobody observed)
 
 pub returns-in-Anybody : goal.returns-in-Anybody
 returns-in-Anybody c =
-    let rows = c.args.roll.now.rows in
-    let long = length_observed rows in
-    let some : 0 < length (observed_of rows) = omega (arith, long, c.len.ensures, c.if-len-eq0.false) in
-    sym (ap (λ among. list_any (includes_one among) (observed_of rows)) c.in-Anybody.is ∙ some_of_anybody (observed_of rows) some)
+    let members = c.args.roll.now.members in
+    let long = length_observed members in
+    let some : 0 < length (observed_of members) = omega (arith, long, c.len.ensures, c.if-len-eq0.false) in
+    sym (ap (λ among. list_any (includes_one among) (observed_of members)) c.in-Anybody.is ∙ some_of_anybody (observed_of members) some)

@@ -10,8 +10,8 @@ use Rattle.coap_observe.proofs.observers.has_one.Goals as goal
 pub returns-then-pair-domain : goal.returns-then-pair-domain
 returns-then-pair-domain c =
     let test = is_of c.args.pair.peer c.args.domain in
-    let rows = c.args.roll.now.rows in
+    let members = c.args.roll.now.members in
     c.is_some.ensures
     ∙ ap is_some c.pair_key.ensures
-    ∙ some_first test rows
-    ∙ ap (λ b. b && list_any test (observed_of rows)) (sym (eq-eqb c.args.pair.domain c.args.domain c.if-pair-domain.true))
+    ∙ some_first test members
+    ∙ ap (λ b. b && list_any test (observed_of members)) (sym (eq-eqb c.args.pair.domain c.args.domain c.if-pair-domain.true))

@@ -9,7 +9,7 @@ use Rattle.coap_observe.proofs.observers.id_among.Given as goal
 
 abbrev pub invariant-loop-place : goal.invariant-loop-place
 invariant-loop-place l = record {
-  rest : find (λ key. option_any (had_id l.peer l.id) (one_at key l.roll.rows)) (drop l.place (chain_at l.at l.chains.chains).keys)
-      ≡ find (λ key. option_any (had_id l.peer l.id) (one_at key l.roll.rows)) (chain_at l.at l.chains.chains).keys;
+  rest : find (λ key. option_any (had_id l.peer l.id) (one_at key l.roll.members)) (drop l.place (chain_at l.at l.chains.chains).keys)
+      ≡ find (λ key. option_any (had_id l.peer l.id) (one_at key l.roll.members)) (chain_at l.at l.chains.chains).keys;
   key : l.key ≡ get_or ((chain_at l.at l.chains.chains).start ∷ (chain_at l.at l.chains.chains).keys) l.place 0;
 }

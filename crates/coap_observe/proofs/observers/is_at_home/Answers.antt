@@ -10,15 +10,15 @@ use Rattle.coap_observe.proofs.observers.is_at_home.Goals as goal
 pub returns-in-Some : goal.returns-in-Some
 returns-in-Some c =
     let observer = c.args.observer.now in
-    let rows = c.args.roll.now.rows in
-    let found = ap (λ token. first_key (is_token observer.peer token) rows) (sym c.bytes.ensures.value) ∙ sym c.in-Some.ensures in
+    let members = c.args.roll.now.members in
+    let found = ap (λ token. first_key (is_token observer.peer token) members) (sym c.bytes.ensures.value) ∙ sym c.in-Some.ensures in
     c.is_domain_at.ensures
-    ∙ ap (option_any (λ (o : ObservedValue). o.observer.domain == observer.domain)) (first_own (is_token observer.peer observer.token) rows c.in-Some.key c.requires.apart found)
+    ∙ ap (option_any (λ (o : ObservedValue). o.observer.domain == observer.domain)) (first_own (is_token observer.peer observer.token) members c.in-Some.key c.requires.apart found)
 
 pub returns-in-None : goal.returns-in-None
 returns-in-None c =
     let observer = c.args.observer.now in
-    let rows = c.args.roll.now.rows in
+    let members = c.args.roll.now.members in
     let test = is_token observer.peer observer.token in
-    let found = ap (λ token. first_key (is_token observer.peer token) rows) (sym c.bytes.ensures.value) ∙ sym c.in-None.ensures in
-    sym (ap (option_any (λ (o : ObservedValue). o.observer.domain == observer.domain)) (found_none test (observed_of rows) (none_first test rows found)))
+    let found = ap (λ token. first_key (is_token observer.peer token) members) (sym c.bytes.ensures.value) ∙ sym c.in-None.ensures in
+    sym (ap (option_any (λ (o : ObservedValue). o.observer.domain == observer.domain)) (found_none test (observed_of members) (none_first test members found)))

@@ -6,6 +6,6 @@ use Rattle.coap_observe.proofs.observers.next_due.Given as goal
 
 abbrev pub invariant-loop-place : goal.invariant-loop-place
 invariant-loop-place g l = record {
-  none : NoneIsDue (g.V.Views.lists l.views) l.among l.from l.place (observed_of l.roll.rows);
-  key : l.key ≡ get_or (l.roll.room ∷ keys_of l.roll.rows) l.place 0;
+  none : NoneIsDue (g.V.Views.lists l.views) l.among l.from l.place (observed_of l.roll.members);
+  key : l.key ≡ get_or (l.roll.room ∷ keys_of l.roll.members) l.place 0;
 }

@@ -13,7 +13,7 @@ pub returns-then-is_of_at : goal.returns-then-is_of_at
 returns-then-is_of_at c =
     let keys = (chain_at c.args.at c.args.chains.now.chains).keys in
     let less : c.loop-place.place < length keys = omega (arith, c.loop-place-test.true, c.len-place-end.ensures) in
-    sym (found_here (λ key. option_any (is_of c.args.peer c.args.domain) (one_at key c.args.roll.now.rows)) keys c.loop-place.place c.behind-key.result less c.behind-key.ensures
+    sym (found_here (λ key. option_any (is_of c.args.peer c.args.domain) (one_at key c.args.roll.now.members)) keys c.loop-place.place c.behind-key.result less c.behind-key.ensures
     (sym c.is_of_at.ensures ∙ c.if-is_of_at.true))
     ∙ c.loop-place.invariant.rest
 
@@ -23,7 +23,7 @@ loop-place-preserved c =
     let less : c.loop-place.place < length chain.keys = omega (arith, c.loop-place-test.true, c.len-place-end.ensures) in
     record {
       rest =
-          found_later (λ key. option_any (is_of c.args.peer c.args.domain) (one_at key c.args.roll.now.rows)) chain.keys c.loop-place.place c.behind-key.result less c.behind-key.ensures
+          found_later (λ key. option_any (is_of c.args.peer c.args.domain) (one_at key c.args.roll.now.members)) chain.keys c.loop-place.place c.behind-key.result less c.behind-key.ensures
           (sym c.is_of_at.ensures ∙ c.if-is_of_at.false)
           ∙ c.loop-place.invariant.rest;
       key = c.behind-key.ensures ∙ ap (λ k. get_or (chain.start ∷ chain.keys) k 0) (sym (add-one c.loop-place.place));
@@ -33,5 +33,5 @@ pub returns : goal.returns
 returns c =
     let keys = (chain_at c.args.at c.args.chains.now.chains).keys in
     let end : c.loop-place.place ≡ length keys = omega (arith, c.loop-place-test.false, c.loop-place.auto.place-end, c.len-place-end.ensures) in
-    sym (found_nowhere (λ key. option_any (is_of c.args.peer c.args.domain) (one_at key c.args.roll.now.rows)) keys c.loop-place.place end)
+    sym (found_nowhere (λ key. option_any (is_of c.args.peer c.args.domain) (one_at key c.args.roll.now.members)) keys c.loop-place.place end)
     ∙ c.loop-place.invariant.rest

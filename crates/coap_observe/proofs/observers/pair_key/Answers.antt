@@ -15,14 +15,14 @@ pair_among-requires c = chain_within c.args.peer c.in-Some.at c.args.chains.now.
 pub returns-in-Some : goal.returns-in-Some
 returns-in-Some c =
     let test = is_of c.args.peer c.args.domain in
-    let rows = c.args.roll.now.rows in
+    let members = c.args.roll.now.members in
     c.pair_among.ensures
-    ∙ ap (find (λ key. option_any test (one_at key rows))) (keys_placed c.args.peer c.in-Some.at c.args.chains.now.chains (sym c.in-Some.ensures) ∙ c.requires.own c.args.peer)
-    ∙ found_key c.args.peer test rows c.requires.apart (λ x is. (and_parts (x.observer.peer == c.args.peer) (x.observer.domain == c.args.domain) is).0)
+    ∙ ap (find (λ key. option_any test (one_at key members))) (keys_placed c.args.peer c.in-Some.at c.args.chains.now.chains (sym c.in-Some.ensures) ∙ c.requires.own c.args.peer)
+    ∙ found_key c.args.peer test members c.requires.apart (λ x is. (and_parts (x.observer.peer == c.args.peer) (x.observer.domain == c.args.domain) is).0)
 
 pub returns-in-None : goal.returns-in-None
 returns-in-None c =
     let test = is_of c.args.peer c.args.domain in
-    let rows = c.args.roll.now.rows in
-    ap (find (λ key. option_any test (one_at key rows))) (sym (keys_nowhere c.args.peer c.args.chains.now.chains (sym c.in-None.ensures)) ∙ c.requires.own c.args.peer)
-    ∙ found_key c.args.peer test rows c.requires.apart (λ x is. (and_parts (x.observer.peer == c.args.peer) (x.observer.domain == c.args.domain) is).0)
+    let members = c.args.roll.now.members in
+    ap (find (λ key. option_any test (one_at key members))) (sym (keys_nowhere c.args.peer c.args.chains.now.chains (sym c.in-None.ensures)) ∙ c.requires.own c.args.peer)
+    ∙ found_key c.args.peer test members c.requires.apart (λ x is. (and_parts (x.observer.peer == c.args.peer) (x.observer.domain == c.args.domain) is).0)

@@ -9,27 +9,27 @@ use Rattle.coap_observe.proofs.observers.remove_key.Goals as goal
 
 pub remove-requires : goal.remove-requires
 remove-requires c =
-    let rows = c.args.roll.now.rows in
-    let of = owner c.args.peer (one_at c.args.key rows) c.requires.own in
-    has_one c.args.key of.one rows of.there
+    let members = c.args.roll.now.members in
+    let of = owner c.args.peer (one_at c.args.key members) c.requires.own in
+    has_one c.args.key of.one members of.there
 
 pub depart-requires : goal.depart-requires
 depart-requires c =
-    let rows = c.args.roll.now.rows in
-    let of = owner c.args.peer (one_at c.args.key rows) c.requires.own in
+    let members = c.args.roll.now.members in
+    let of = owner c.args.peer (one_at c.args.key members) c.requires.own in
     ap (has_slot c.args.key) (c.requires.chained.own c.args.peer)
-    ∙ own_has c.args.peer c.args.key of.one rows of.there (eq-eqb of.one.observer.peer c.args.peer of.peer_is)
+    ∙ own_has c.args.peer c.args.key of.one members of.there (eq-eqb of.one.observer.peer c.args.peer of.peer_is)
 
 pub returns-clause-chained : goal.returns-clause-chained
 returns-clause-chained c =
-    let rows = c.args.roll.now.rows in
+    let members = c.args.roll.now.members in
     let chains = c.args.chains.now.chains in
-    let of = owner c.args.peer (one_at c.args.key rows) c.requires.own in
+    let of = owner c.args.peer (one_at c.args.key members) c.requires.own in
     let gone = subst (λ (v : ChainsValue). IsNowhere c.args.key v.chains) c.depart.ensures.others c.depart.ensures.gone in
-    subst (λ (v : ChainsValue). AreChained v.chains c.remove.new.self.rows) (sym c.depart.ensures.others)
-    (subst (λ (r : RollValue). AreChained (one_left c.args.peer c.args.key chains) r.rows) (sym c.remove.ensures)
-    (subst (λ p. AreChained (one_left p c.args.key chains) (without_key c.args.key rows)) of.peer_is
-    (chained_less chains rows c.args.key of.one of.there c.requires.chained (subst (λ p. IsNowhere c.args.key (one_left p c.args.key chains)) (sym of.peer_is) gone))))
+    subst (λ (v : ChainsValue). AreChained v.chains c.remove.new.self.members) (sym c.depart.ensures.others)
+    (subst (λ (r : RollValue). AreChained (one_left c.args.peer c.args.key chains) r.members) (sym c.remove.ensures)
+    (subst (λ p. AreChained (one_left p c.args.key chains) (without_key c.args.key members)) of.peer_is
+    (chained_less chains members c.args.key of.one of.there c.requires.chained (subst (λ p. IsNowhere c.args.key (one_left p c.args.key chains)) (sym of.peer_is) gone))))
 
 pub returns-clause-room : goal.returns-clause-room
 returns-clause-room c = record {

@@ -13,7 +13,7 @@ id_key-requires c = c.loop-key.invariant.chained
 
 pub remove_key-requires : goal.remove_key-requires
 remove_key-requires c =
-    let first = is_first (had_id c.args.peer c.args.id) c.loop-key.roll.rows c.in-Some.key c.loop-key.invariant.chained.apart (sym c.in-Some.ensures) in
+    let first = is_first (had_id c.args.peer c.args.id) c.loop-key.roll.members c.in-Some.key c.loop-key.invariant.chained.apart (sym c.in-Some.ensures) in
     record {
       own = ap (option_map peer_of) first.there ∙ ap Some (eqb-true first.one.observer.peer c.args.peer (and_parts (first.one.observer.peer == c.args.peer) (same_id c.args.id first.one.last) first.passes).0);
       chained = c.loop-key.invariant.chained;
@@ -22,12 +22,12 @@ remove_key-requires c =
 pub loop-key-preserved : goal.loop-key-preserved
 loop-key-preserved c =
     let test = had_id c.args.peer c.args.id in
-    let rows = c.loop-key.roll.rows in
-    let first = is_first test rows c.in-Some.key c.loop-key.invariant.chained.apart (sym c.in-Some.ensures) in
+    let members = c.loop-key.roll.members in
+    let first = is_first test members c.in-Some.key c.loop-key.invariant.chained.apart (sym c.in-Some.ensures) in
     record {
       stay =
           ap (λ rs. filter (λ o. not (test o)) (observed_of rs)) c.remove_key.ensures.rows
-          ∙ others_same (λ o. not (test o)) rows c.in-Some.key first.one c.loop-key.invariant.chained.apart first.there (ap not first.passes)
+          ∙ others_same (λ o. not (test o)) members c.in-Some.key first.one c.loop-key.invariant.chained.apart first.there (ap not first.passes)
           ∙ c.loop-key.invariant.stay;
       capacity = c.remove_key.ensures.capacity ∙ c.loop-key.invariant.capacity;
       chained = c.remove_key.ensures.chained;
@@ -36,13 +36,13 @@ loop-key-preserved c =
 
 pub loop-key-smaller : goal.loop-key-smaller
 loop-key-smaller c =
-    let rows = c.loop-key.roll.rows in
-    let first = is_first (had_id c.args.peer c.args.id) rows c.in-Some.key c.loop-key.invariant.chained.apart (sym c.in-Some.ensures) in
-    subst (λ rs. length rs < length rows) (sym c.remove_key.ensures.rows) (shorter c.in-Some.key rows first.has)
+    let members = c.loop-key.roll.members in
+    let first = is_first (had_id c.args.peer c.args.id) members c.in-Some.key c.loop-key.invariant.chained.apart (sym c.in-Some.ensures) in
+    subst (λ rs. length rs < length members) (sym c.remove_key.ensures.rows) (shorter c.in-Some.key members first.has)
 
 pub returns-clause-items : goal.returns-clause-items
 returns-clause-items c =
     let test = had_id c.args.peer c.args.id in
-    let rows = c.loop-key.roll.rows in
-    let none = none_first test rows (sym c.id_key.ensures ∙ c.in_default.is) in
-    sym (all_stay test (observed_of rows) none) ∙ c.loop-key.invariant.stay
+    let members = c.loop-key.roll.members in
+    let none = none_first test members (sym c.id_key.ensures ∙ c.in_default.is) in
+    sym (all_stay test (observed_of members) none) ∙ c.loop-key.invariant.stay

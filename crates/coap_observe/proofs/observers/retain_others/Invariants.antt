@@ -8,11 +8,11 @@ use Rattle.coap_observe.proofs.observers.retain_others.Given as goal
 
 abbrev pub invariant-loop-key : goal.invariant-loop-key
 invariant-loop-key l = record {
-  stay : filter (λ o. not (is_token l.peer l.token o)) (observed_of l.roll.rows) ≡ filter (λ o. not (is_token l.peer l.token o)) (observed_of l.fn.roll.rows);
+  stay : filter (λ o. not (is_token l.peer l.token o)) (observed_of l.roll.members) ≡ filter (λ o. not (is_token l.peer l.token o)) (observed_of l.fn.roll.members);
   capacity : l.roll.room ≡ l.fn.roll.room;
-  chained : AreChained l.chains.chains l.roll.rows;
+  chained : AreChained l.chains.chains l.roll.members;
   room : SameRoom l.fn.chains l.chains;
 }
 
 abbrev pub decreases-loop-key : goal.decreases-loop-key
-decreases-loop-key l = length l.roll.rows
+decreases-loop-key l = length l.roll.members

@@ -1,4 +1,4 @@
-use Rattle.coap_tcp.proofs.Outcomes.{frame_size, waits_short}
+use Rattle.coap_tcp.proofs.CutValues.{frame_size, waits_short}
 use Rattle.coap_tcp.proofs.laws.greatest_frame.Goals as goal
 
 pub returns-clause-frame : goal.returns-clause-frame

@@ -1,4 +1,4 @@
-use Rattle.coap_tcp.proofs.Outcomes.{frame_found}
+use Rattle.coap_tcp.proofs.CutValues.{frame_found}
 use Rattle.coap_tcp.proofs.Streams.{begins_takes, one_front}
 use Rattle.coap_tcp.proofs.laws.one_frame.Goals as goal
 

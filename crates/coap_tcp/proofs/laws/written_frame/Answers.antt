@@ -1,5 +1,5 @@
 use Rattle.coap_tcp.specs.Datagrams.{frame_of}
-use Rattle.coap_tcp.proofs.Outcomes.{frame_again}
+use Rattle.coap_tcp.proofs.CutValues.{frame_again}
 use Rattle.coap_tcp.proofs.Putting.{parts_frame}
 use Rattle.coap_tcp.proofs.laws.written_frame.Goals as goal
 

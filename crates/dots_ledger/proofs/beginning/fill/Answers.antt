@@ -16,9 +16,9 @@ returns-in_err-journal g c =
       recovered = rw p.1 tt;
       size = rw p.1 tt;
       refused = rw (p.1, p.2) (λ seen sees. refuses_more c.args.settings.now (g.D.Disk.extent c.args.disk.now) seen _ _ (c.in_err-journal.ensures.refused seen sees));
-      complete = rw (p.1, p.2) (λ seen entries sees holds calm size.
+      complete = rw (p.1, p.2) (λ seen entries sees image_has calm size.
           fails_alone c.args.settings.now (g.D.Disk.extent c.args.disk.now) seen (g.D.Disk.media c.args.disk.now) entries _
-          (refuses_more c.args.settings.now (g.D.Disk.extent c.args.disk.now) seen (g.D.Disk.media c.args.disk.now) _ (c.in_err-journal.ensures.refused seen sees)) holds calm size);
+          (refuses_more c.args.settings.now (g.D.Disk.extent c.args.disk.now) seen (g.D.Disk.media c.args.disk.now) _ (c.in_err-journal.ensures.refused seen sees)) image_has calm size);
       unwritten = rw (p.1, p.2) (λ seen other rests. inl (c.in_err-journal.ensures.unwritten seen other rests));
       extent = c.in_err-journal.ensures.extent;
       cause = rw (p.1, p.2) c.in_err-journal.ensures.cause;
@@ -42,7 +42,7 @@ returns-then-many-used g c =
       refused = λ seen sees.
           let same = used_many _ c.args.settings.now c.in_ok-journal.journal c.in_ok-journal.entries (c.in_ok-journal.ensures.recovered seen sees).1 in
           absurd (other (many ∙ sym same ∙ sym used));
-      complete = λ seen entries sees holds calm size.
+      complete = λ seen entries sees image_has calm size.
           let same = used_many _ c.args.settings.now c.in_ok-journal.journal c.in_ok-journal.entries (c.in_ok-journal.ensures.recovered seen sees).1 in
           absurd (other (many ∙ sym same ∙ sym used));
       unwritten = λ seen gone rests. inr (c.in_ok-journal.entries, (c.in_ok-journal.ensures.recovered seen (sees_at_rest _ seen rests)).0);
@@ -62,11 +62,11 @@ returns-in_err-take_all g c =
       refused = rw (p.1, p.2) (λ seen sees.
           let found = c.in_ok-journal.ensures.recovered seen sees in
           refuses_stray c.args.settings.now extent seen _ c.in_ok-journal.journal c.in_ok-journal.entries _ c.in_ok-journal.ensures.size.0 found.0 found.1 c.in_err-take_all.ensures.refused);
-      complete = rw (p.1, p.2) (λ seen entries sees holds calm size.
+      complete = rw (p.1, p.2) (λ seen entries sees image_has calm size.
           let found = c.in_ok-journal.ensures.recovered seen sees in
           fails_alone c.args.settings.now extent seen _ entries _
           (refuses_stray c.args.settings.now extent seen _ c.in_ok-journal.journal c.in_ok-journal.entries _ c.in_ok-journal.ensures.size.0 found.0 found.1 c.in_err-take_all.ensures.refused)
-          holds calm size);
+          image_has calm size);
       unwritten = rw (p.1, p.2) (λ seen other rests. inr (c.in_ok-journal.entries, (c.in_ok-journal.ensures.recovered seen (sees_at_rest _ seen rests)).0));
       extent = c.in_ok-journal.ensures.extent;
       cause = rw (p.1, p.2) (caused_entries JournalValue c.args.settings.now c.in_ok-journal.journal c.in_ok-journal.entries _ _ _ c.in_err-take_all.ensures.refused c.in_ok-journal.ensures.cause);
@@ -116,7 +116,7 @@ returns g c = record {
         c.requires.fewer;
     time = c.tick.ensures.time
         ∙ time_begun c.args.settings.now c.in_ok-journal.entries c.take_all.new.registry c.args.at c.time.result c.max-now.result c.in_ok-take_all.ensures.taken c.time.ensures c.max-now.ensures;
-    held = λ seen sees. (c.in_ok-journal.ensures.recovered seen sees).0;
+    stored = λ seen sees. (c.in_ok-journal.ensures.recovered seen sees).0;
     rests = λ seen sees. (c.in_ok-journal.ensures.recovered seen sees).1;
   };
   size = c.in_ok-journal.ensures.size;

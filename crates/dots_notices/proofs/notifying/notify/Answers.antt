@@ -9,7 +9,7 @@ use Rattle.dots_notices.proofs.notifying.notify.Goals as goal
 pub loop-due-init : goal.loop-due-init
 loop-due-init g c = record {
   notified = ([], far_first _ _ _ _, sent_none (g.H.Wire.acts c.args.host.now) (g.H.Wire.moment c.args.host.now));
-  quiet = λ none. quiet_first (g.S.Views.lists c.args.shows.now) c.args.watch.now.due c.args.watch.now.observers.observed;
+  quiet = λ none. quiet_first (g.S.Views.lists c.args.view_bodies.now) c.args.watch.now.due c.args.watch.now.observers.observed;
   owed = λ passed. absurd (false≢true passed);
   due = refl;
   room = refl;
@@ -24,7 +24,7 @@ loop-due-init g c = record {
 pub notify_one-from-requires : goal.notify_one-from-requires
 notify_one-from-requires g c =
     let next = c.in-Some.ensures.next in
-    record { within = next.2; few = c.in-Some.ensures.few; made = λ one there. made_of (g.S.Views.lists c.args.shows.now) (g.S.Shows.bodies c.args.shows.now) c.loop-due.watch.sessions c.loop-due.watch.observers.observed c.in-Some.due.place _ _ _ _ _ next.1 there next.5 }
+    record { within = next.2; few = c.in-Some.ensures.few; made = λ one there. made_of (g.S.Views.lists c.args.view_bodies.now) (g.S.ViewBodies.bodies c.args.view_bodies.now) c.loop-due.watch.sessions c.loop-due.watch.observers.observed c.in-Some.due.place _ _ _ _ _ next.1 there next.5 }
 
 pub loop-due-smaller : goal.loop-due-smaller
 loop-due-smaller g c =
@@ -37,7 +37,7 @@ loop-due-preserved g c =
     let next = c.in-Some.ensures.next in
     let one = c.notify_one-from.ensures.notified next.0 next.1 in
     let kept = c.loop-due.invariant in
-    let lists = g.S.Views.lists c.args.shows.now in
+    let lists = g.S.Views.lists c.args.view_bodies.now in
     let rows = c.loop-due.watch.observers.observed in
     let new = c.notify_one-from.new.watch.observers.observed in
     let went = went_so _ _ _ _ _ _ _ _ _ _ _ one.1 in
@@ -68,10 +68,10 @@ returns-clause-notified g c =
 
 pub returns-clause-due : goal.returns-clause-due
 returns-clause-due g c = λ are.
-    let lists = g.S.Views.lists c.args.shows.now in
+    let lists = g.S.Views.lists c.args.view_bodies.now in
     let kept = c.loop-due.invariant in
     let rows = c.loop-due.watch.observers.observed in
     let all = far_last _ _ _ _ _ _ _ _ kept.notified.1 in
     known_behind lists c.args.watch.now.due rows c.loop-due.from c.loop-due.passed_over c.due_behind-watch.result c.due_behind-watch.ensures
-    (notified_still lists (g.S.Shows.bodies c.args.shows.now) c.args.watch.now.due c.args.watch.now.observers.observed c.args.watch.now.sessions kept.notified.0 rows c.loop-due.watch.sessions all are)
+    (notified_still lists (g.S.ViewBodies.bodies c.args.view_bodies.now) c.args.watch.now.due c.args.watch.now.observers.observed c.args.watch.now.sessions kept.notified.0 rows c.loop-due.watch.sessions all are)
     kept.quiet (subst (λ among. NoneIsDue lists among c.loop-due.from (length rows) rows) kept.due c.in_default.ensures.next) kept.owed

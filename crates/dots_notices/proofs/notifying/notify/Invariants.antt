@@ -10,10 +10,10 @@ use Rattle.dots_notices.proofs.notifying.notify.Given as goal
 
 abbrev pub invariant-loop-due : goal.invariant-loop-due
 invariant-loop-due g l = record {
-  notified : (sends : List OwnedOut) × Far (g.S.Views.lists l.shows) (g.S.Shows.bodies l.shows) l.fn.watch.observers.observed l.fn.watch.sessions l.from l.watch.observers.observed l.watch.sessions sends
+  notified : (sends : List OwnedOut) × Far (g.S.Views.lists l.view_bodies) (g.S.ViewBodies.bodies l.view_bodies) l.fn.watch.observers.observed l.fn.watch.sessions l.from l.watch.observers.observed l.watch.sessions sends
       × Added (g.H.Wire.acts l.fn.host) (g.H.Wire.acts l.host) (SentTo (g.H.Wire.moment l.fn.host) (g.H.Wire.moment l.host) sends);
-  quiet : l.passed_over ≡ false → NoneIsDue (g.S.Views.lists l.shows) l.fn.watch.due 0 l.from l.watch.observers.observed;
-  owed : l.passed_over ≡ true → IsOneOwed (g.S.Views.lists l.shows) l.from l.watch.observers.observed;
+  quiet : l.passed_over ≡ false → NoneIsDue (g.S.Views.lists l.view_bodies) l.fn.watch.due 0 l.from l.watch.observers.observed;
+  owed : l.passed_over ≡ true → IsOneOwed (g.S.Views.lists l.view_bodies) l.from l.watch.observers.observed;
   due : l.watch.due ≡ l.fn.watch.due;
   room : l.watch.observers.room ≡ l.fn.watch.observers.room;
   pairs : l.watch.observers.pairs ≡ l.fn.watch.observers.pairs;

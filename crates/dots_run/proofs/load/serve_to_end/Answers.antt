@@ -35,13 +35,13 @@ returns-in-Ok-count_rows-clause-served c = λ whole.
     let mid = c.begin.new.host in
     let new = c.take_events.new.host in
     let settings = c.in_ok-settings.settings in
-    let (held, kept, calm, disk) = c.in-Ok.ensures.begun in
+    let (stored, kept, calm, disk) = c.in-Ok.ensures.begun in
     let holds = disk (byte_of []) (sees_zeros old.disk c.requires.disk c.requires.acts) in
-    let (end, came, stands) = rw c.in-Ok-take_events.is at (c.take_events.ensures.came settings (restarted settings (begun_from settings held) 0) held kept (inl holds.1)) in
+    let (end, came, stands) = rw c.in-Ok-take_events.is at (c.take_events.ensures.came settings (restarted settings (begun_from settings stored) 0) stored kept (inl holds.1)) in
     let keeps = keeps_acts old.disk mid.disk c.begin.ensures.beside.disk in
     let ran = all_told old.disk new.disk (told mid.disk.whole mid.disk.acts) _ c.requires.acts c.requires.whole whole keeps came.told in
     let history = end.last.history in
     let rows = c.filters.ensures.scrubs history (subst (λ r. registry.Represents r history) (sym c.registry.ensures) stands.registry)
     ∙ ap (λ r. plain_rows (registry.time_of r) history) c.registry.ensures ∙ ap (λ t. plain_rows t history) stands.time_is in
-    runs_to_end settings c.in_ok-settings.ensures held holds.0 (restarted settings (begun_from settings held) 0) (begun_zero settings held) (wire_acts 0 new.disk.acts) came.trace end c.in-Ok-count_rows.rows came.settled (ended_story settings _ end _ _ ran.0) ran.0.stops
+    runs_to_end settings c.in_ok-settings.ensures stored holds.0 (restarted settings (begun_from settings stored) 0) (begun_zero settings stored) (wire_acts 0 new.disk.acts) came.trace end c.in-Ok-count_rows.rows came.settled (ended_story settings _ end _ _ ran.0) ran.0.stops
     (c.in-Ok-count_rows.ensures ∙ ap (λ (listed : List ScrubRow). length (filter is_active listed)) rows)

@@ -17,7 +17,7 @@ returns-in-Ok-read_settings-clause-machine g c =
       media = g.H.Disk.media host;
       extent = g.H.Disk.extent host;
       disk_faults = g.H.Disk.faults host;
-      held = g.K.Sink.holds c.args.report.now;
+      written = g.K.Sink.holds c.args.report.now;
       report_faults = g.K.Sink.faults c.args.report.now;
     } in
     let now : Outside = record {
@@ -28,7 +28,7 @@ returns-in-Ok-read_settings-clause-machine g c =
       media = g.H.Disk.media left;
       extent = g.H.Disk.extent left;
       disk_faults = g.H.Disk.faults left;
-      held = g.K.Sink.holds c.host_events.new.report;
+      written = g.K.Sink.holds c.host_events.new.report;
       report_faults = g.K.Sink.faults c.host_events.new.report;
     } in
     behaves_hosted (map string_bytes c.args.words.now) before now c.host_events.result c.host_events.ensures.hosted (sym c.is_served.ensures ∙ c.if-not-is_served.false) c.in-Ok-read_settings.settings

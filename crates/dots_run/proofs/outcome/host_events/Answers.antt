@@ -17,7 +17,7 @@ returns-in-Ok-clause-machine g c = λ left left_now faults faults_now.
     let new = c.serve.new.host in
     let report = c.args.report.now in
     let written = c.serve.new.report in
-    let (held, kept, calm, disk) = c.in-Ok.ensures.begun in
+    let (stored, kept, calm, disk) = c.in-Ok.ensures.begun in
     let keeps = g.met.H.Host.disk_keeps old mid c.begin.ensures.beside in
     let before : Outside = record {
       left = left;
@@ -27,7 +27,7 @@ returns-in-Ok-clause-machine g c = λ left left_now faults faults_now.
       media = g.H.Disk.media old;
       extent = g.H.Disk.extent old;
       disk_faults = g.H.Disk.faults old;
-      held = g.K.Sink.holds report;
+      written = g.K.Sink.holds report;
       report_faults = g.K.Sink.faults report;
     } in
     let between : Outside = record {
@@ -38,7 +38,7 @@ returns-in-Ok-clause-machine g c = λ left left_now faults faults_now.
       media = g.H.Disk.media mid;
       extent = g.H.Disk.extent mid;
       disk_faults = g.H.Disk.faults mid;
-      held = g.K.Sink.holds report;
+      written = g.K.Sink.holds report;
       report_faults = g.K.Sink.faults report;
     } in
     let after : Outside = record {
@@ -49,21 +49,21 @@ returns-in-Ok-clause-machine g c = λ left left_now faults faults_now.
       media = g.H.Disk.media new;
       extent = g.H.Disk.extent new;
       disk_faults = g.H.Disk.faults new;
-      held = g.K.Sink.holds written;
+      written = g.K.Sink.holds written;
       report_faults = g.K.Sink.faults written;
     } in
-    let counted : Counts before (g.K.Sink.holds report) (g.K.Sink.faults report) (g.H.Wire.faults mid) (g.H.Disk.faults mid) = record { held = refl; report = refl; wire = sym keeps.1; disk = sym c.in-Ok.ensures.cause } in
-    let counts : Counts after (g.K.Sink.holds written) (g.K.Sink.faults written) (g.H.Wire.faults new) (g.H.Disk.faults new) = record { held = refl; report = refl; wire = refl; disk = refl } in
-    serves_to c.args.settings held before between after calm keeps.0
-    (λ seen rests. c.begin.ensures.moments seen held rests (disk seen (sees_of (g.H.Disk.media old) seen rests)).0)
+    let counted : Counts before (g.K.Sink.holds report) (g.K.Sink.faults report) (g.H.Wire.faults mid) (g.H.Disk.faults mid) = record { written = refl; report = refl; wire = sym keeps.1; disk = sym c.in-Ok.ensures.cause } in
+    let counts : Counts after (g.K.Sink.holds written) (g.K.Sink.faults written) (g.H.Wire.faults new) (g.H.Disk.faults new) = record { written = refl; report = refl; wire = refl; disk = refl } in
+    serves_to c.args.settings stored before between after calm keeps.0
+    (λ seen rests. c.begin.ensures.moments seen stored rests (disk seen (sees_of (g.H.Disk.media old) seen rests)).0)
     (λ seen sees. (disk seen sees).0)
-    (RestsWith (g.H.Disk.media mid) (journal.Represents c.in-Ok.server.journal c.args.settings held))
+    (RestsWith (g.H.Disk.media mid) (journal.Represents c.in-Ok.server.journal c.args.settings stored))
     (λ seen rests. (disk seen (sees_of (g.H.Disk.media old) seen rests)).1)
     c.serve.result
     (λ told.
-    let (how, end, came, wrote) = c.serve.ensures.came c.args.settings (begun_from c.args.settings held) held
-    (subst (λ state. IsKept c.in-Ok.server c.args.settings state held) (begun_zero c.args.settings held) kept)
-    (followed_by (RestsWith (g.H.Disk.media mid) (journal.Represents c.in-Ok.server.journal c.args.settings held)) before after (g.H.Wire.acts mid) keeps.0 c.serve.ensures.adds (λ seen sees. (disk seen sees).1) told) in
+    let (how, end, came, wrote) = c.serve.ensures.came c.args.settings (begun_from c.args.settings stored) stored
+    (subst (λ state. IsKept c.in-Ok.server c.args.settings state stored) (begun_zero c.args.settings stored) kept)
+    (followed_by (RestsWith (g.H.Disk.media mid) (journal.Represents c.in-Ok.server.journal c.args.settings stored)) before after (g.H.Wire.acts mid) keeps.0 c.serve.ensures.adds (λ seen sees. (disk seen sees).1) told) in
     (how, end, came, wrote before after counted counts))
     (let (how, state, own, wrote) = c.serve.ensures.any in (
       how,

@@ -1,5 +1,5 @@
 use Rattle.std.proofs.Common.{◌∙◌}
-use Rattle.dots_run.proofs.Completeness.{ends_refused, ends_well, ends_printed, ends_unreadable, wrong_words, no_command, has_read, has_written, has_failed, has_heard, not_served}
+use Rattle.dots_run.proofs.Completeness.{ends_refused, ends_well, ends_printed, ends_unreadable, wrong_words, no_command, has_read, has_written, has_failed, has_source_read, not_served}
 use Rattle.dots_run.proofs.outcome.run_machine.Goals as goal
 
 pub returns-clause-words : goal.returns-clause-words
@@ -12,7 +12,7 @@ pub returns-clause-read : goal.returns-clause-read
 returns-clause-read g c = λ is. has_read _ _ _ c.ending_of.result (rw c.status.ensures at is) c.ending_of.ensures.machine
 
 pub returns-clause-heard : goal.returns-clause-heard
-returns-clause-heard g c = λ four five. has_heard _ _ c.ending_of.result (λ is. four (c.status.ensures ∙ is)) (λ is. five (c.status.ensures ∙ is)) c.ending_of.ensures.heard
+returns-clause-heard g c = λ four five. has_source_read _ _ c.ending_of.result (λ is. four (c.status.ensures ∙ is)) (λ is. five (c.status.ensures ∙ is)) c.ending_of.ensures.heard
 
 pub returns-clause-written : goal.returns-clause-written
 returns-clause-written g c = λ is. has_written _ _ _ c.ending_of.result (rw c.status.ensures at is) c.ending_of.ensures.machine

@@ -12,8 +12,8 @@ nothing = record { history = []; time = 0; lines = []; observers = []; contacts 
 -- ---- End came
 
 pub returns-in-Ok-write_report-clause-came : goal.returns-in-Ok-write_report-clause-came
-returns-in-Ok-write_report-clause-came g c = λ settings start held kept follows.
-    let got = rw c.in-Ok.is at (c.take_events.ensures.came settings start held kept follows) in (
+returns-in-Ok-write_report-clause-came g c = λ settings start stored kept follows.
+    let got = rw c.in-Ok.is at (c.take_events.ensures.came settings start stored kept follows) in (
       stop.Ended,
       got.0,
       got.1,
@@ -34,8 +34,8 @@ returns-in-Ok-write_report-clause-any g c =
 -- ---- and the report couldn't be written
 
 pub returns-in-Err-write_report-clause-came : goal.returns-in-Err-write_report-clause-came
-returns-in-Err-write_report-clause-came g c = λ settings start held kept follows.
-    let got = rw c.in-Ok.is at (c.take_events.ensures.came settings start held kept follows) in (
+returns-in-Err-write_report-clause-came g c = λ settings start stored kept follows.
+    let got = rw c.in-Ok.is at (c.take_events.ensures.came settings start stored kept follows) in (
       stop.Ended,
       got.0,
       got.1,
@@ -58,8 +58,8 @@ returns-in-Err-write_report-clause-any g c =
 -- ---- the events stopped otherwise
 
 pub returns-in-Err-clause-came : goal.returns-in-Err-clause-came
-returns-in-Err-clause-came g c = λ settings start held kept follows.
-    let got = rw c.in-Err.is at (c.take_events.ensures.came settings start held kept follows) in (
+returns-in-Err-clause-came g c = λ settings start stored kept follows.
+    let got = rw c.in-Err.is at (c.take_events.ensures.came settings start stored kept follows) in (
       c.in-Err.how,
       got.0,
       got.1,

@@ -1,7 +1,7 @@
 use Rattle.std.proofs.Common.{◌∙◌, map, string_bytes, inl, sym, subst}
 use Rattle.dots_host.specs.Causes.{Rose}
 use Rattle.dots_run.specs.Reporting.{ReportsTopic, IsSound, IsAtFault}
-use Rattle.dots_run.proofs.Asking.{never_served, no_show, no_source, one_topic, topic_is_known, known_without, no_topic, never_two, status_unread, status_unwritten, status_sound, status_at_fault, status_heard}
+use Rattle.dots_run.proofs.Asking.{never_served, no_show, no_source, one_topic, topic_is_known, known_without, no_topic, never_two, status_unread, status_unwritten, status_sound, status_at_fault, status_source_read}
 use Rattle.dots_run.proofs.running.run.Goals as goal
 
 -- ---- what is told without serving
@@ -26,7 +26,7 @@ pub returns-in-Some-clause-read : goal.returns-in-Some-clause-read
 returns-in-Some-clause-read g c = λ five. inl (c.report_topic.ensures.read (status_unread c.report_topic.result (sym c.status.ensures ∙ five)))
 
 pub returns-in-Some-clause-heard : goal.returns-in-Some-clause-heard
-returns-in-Some-clause-heard g c = λ four five. status_heard c.report_topic.result _ c.report_topic.ensures.heard (λ is. four (c.status.ensures ∙ is)) (λ is. five (c.status.ensures ∙ is))
+returns-in-Some-clause-heard g c = λ four five. status_source_read c.report_topic.result _ c.report_topic.ensures.heard (λ is. four (c.status.ensures ∙ is)) (λ is. five (c.status.ensures ∙ is))
 
 pub returns-in-Some-clause-written : goal.returns-in-Some-clause-written
 returns-in-Some-clause-written g c = λ nine. c.report_topic.ensures.written (status_unwritten c.report_topic.result (sym c.status.ensures ∙ nine))

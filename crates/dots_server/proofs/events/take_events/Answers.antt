@@ -29,8 +29,8 @@ loop-turn-init g c =
       size = c.requires.size;
       settings = refl;
       adds = added_none acts (λ _. Unit {0}) tt;
-      rested = λ settings start held kept rests. lives_first settings start c.args.server held media acts kept;
-      lives = λ settings start held kept. inr (lives_first settings start c.args.server held media acts kept);
+      rested = λ settings start stored kept rests. lives_first settings start c.args.server stored media acts kept;
+      lives = λ settings start stored kept. inr (lives_first settings start c.args.server stored media acts kept);
     }
 
 -- ---- one more
@@ -67,15 +67,15 @@ loop-turn-preserved g c =
             size = subst (λ slots. needed_of slots ≤ g.H.Disk.extent left) (sym w.in-Ok.ensures.slots) w.in-Ok.ensures.size;
             settings = w.in-Ok.ensures.settings ∙ inv.settings;
             adds = added_on xs zs (g.H.Wire.acts left) (taken_on xs ys zs moment now (took event.Restart at) inv.adds took_it) more;
-            rested = λ settings start held kept rests.
-                let Rests = RestsWith first (journal.Represents c.args.server.journal settings held) in
-                let lives = inv.rested settings start held kept rests in
+            rested = λ settings start stored kept rests.
+                let Rests = RestsWith first (journal.Represents c.args.server.journal settings stored) in
+                let lives = inv.rested settings start stored kept rests in
                 let still = rests_came settings start server c.loop-turn._turn moment at event.Restart Rests first a b xs ys zs now here keeps.0 took_it lives rests in
                 let found = w.in-Ok.ensures.restarted settings lives.state lives.few lives.kept still in
                 lives_then settings start server c.loop-turn._turn moment at event.Restart Rests first a b xs ys zs now here keeps.0 took_it lives begun (g.H.Disk.media left) (g.H.Wire.acts left) tt
                 (restart_took settings lives.state at server lives.few lives.kept b (g.H.Disk.media left) zs (g.H.Wire.acts left) keeps_left.0 (w.restart.ensures.moments settings lives.state lives.few lives.kept)
                 begun (g.H.Wire.moment left) (g.met.H.Host.one_moment left) found.0 found.1);
-            lives = λ settings start held kept. inl (restarted_on xs zs (g.H.Wire.acts left) (restarted_now xs ys zs moment now (took event.Restart at) tt inv.adds took_it) more);
+            lives = λ settings start stored kept. inl (restarted_on xs zs (g.H.Wire.acts left) (restarted_now xs ys zs moment now (took event.Restart at) tt inv.adds took_it) more);
           })
       | in_default+in-Ok-handle w ↦
           let left = w.handle.new.host in
@@ -89,26 +89,26 @@ loop-turn-preserved g c =
             size = subst (λ slots. needed_of slots ≤ g.H.Disk.extent left) (sym w.handle.ensures.slots) (subst (λ extent. needed_of server.journal.slots ≤ extent) (sym w.handle.ensures.extent) size_came);
             settings = w.handle.ensures.settings ∙ inv.settings;
             adds = added_on xs zs (g.H.Wire.acts left) (taken_on xs ys zs moment now (took what at) inv.adds took_it) w.handle.ensures.adds;
-            rested = λ settings start held kept rests.
-                let Rests = RestsWith first (journal.Represents c.args.server.journal settings held) in
-                let lives = inv.rested settings start held kept rests in
+            rested = λ settings start stored kept rests.
+                let Rests = RestsWith first (journal.Represents c.args.server.journal settings stored) in
+                let lives = inv.rested settings start stored kept rests in
                 lives_then settings start server c.loop-turn._turn moment at what Rests first a b xs ys zs now here keeps.0 took_it lives w.handle.new.self (g.H.Disk.media left) (g.H.Wire.acts left) goes
                 (w.in-Ok-handle.ensures.done settings lives.state lives.few lives.kept);
-            lives = λ settings start held kept.
-                let Rests = RestsWith first (journal.Represents c.args.server.journal settings held) in
+            lives = λ settings start stored kept.
+                let Rests = RestsWith first (journal.Represents c.args.server.journal settings stored) in
                 either_on (LivesOn settings start server c.loop-turn._turn Rests first a xs ys) (LivesOn settings start w.handle.new.self (c.loop-turn._turn + 1) Rests first (g.H.Disk.media left) xs (g.H.Wire.acts left))
                 xs ys (g.H.Wire.acts left) (added_on ys zs (g.H.Wire.acts left) (added_by ys zs moment now (took what at) (λ _. Unit {0}) took_it tt) w.handle.ensures.adds)
                 (λ lives.
                 lives_then settings start server c.loop-turn._turn moment at what Rests first a b xs ys zs now here keeps.0 took_it lives w.handle.new.self (g.H.Disk.media left) (g.H.Wire.acts left) goes
                 (w.in-Ok-handle.ensures.done settings lives.state lives.few lives.kept))
-                (inv.lives settings start held kept);
+                (inv.lives settings start stored kept);
           })
     ]
 
 -- ---- the end
 
 pub returns-in-End-clause-came : goal.returns-in-End-clause-came
-returns-in-End-clause-came g c = λ settings start held kept follows.
+returns-in-End-clause-came g c = λ settings start stored kept follows.
     let inv = c.loop-turn.invariant in
     let host = c.loop-turn.host in
     let came = c.next-got.new.self in
@@ -120,11 +120,11 @@ returns-in-End-clause-came g c = λ settings start held kept follows.
     let zs = g.H.Wire.acts came in
     let moment = g.H.Wire.moment host in
     let now = g.H.Wire.moment came in
-    let Rests = RestsWith first (journal.Represents c.args.server.journal settings held) in
+    let Rests = RestsWith first (journal.Represents c.args.server.journal settings stored) in
     let L = LivesOn settings start server c.loop-turn._turn Rests first (g.H.Disk.media host) xs ys in
     let took_it = rw c.in-End.is at c.next-got.ensures.acts in
-    let lives = followed Rests L xs zs follows (inv.rested settings start held kept)
-    (either_on L L xs ys zs (added_by ys zs moment now (took event.End at) (λ _. Unit {0}) took_it tt) (λ l. l) (inv.lives settings start held kept)) in (
+    let lives = followed Rests L xs zs follows (inv.rested settings start stored kept)
+    (either_on L L xs ys zs (added_by ys zs moment now (took event.End at) (λ _. Unit {0}) took_it tt) (λ l. l) (inv.lives settings start stored kept)) in (
       resting lives.state,
       comes_to_end settings start server c.loop-turn._turn moment at event.End Rests first (g.H.Disk.media host) (g.H.Disk.media came) xs ys zs now (g.met.H.Host.one_moment host)
           (g.met.H.Host.wire_keeps host came c.next-got.ensures.beside).0 took_it lives stop.Ended (refl, refl) refl tt (refl, refl, refl) (λ front goes. (front, _, at, refl, refl, goes)),
@@ -137,7 +137,7 @@ returns-in-End-clause-adds g c =
     (took (event_of c.next-got.result.what c.next-got.new.into) c.next-got.result.at) c.loop-turn.invariant.adds c.next-got.ensures.acts
 
 pub returns-in-Failed-clause-came : goal.returns-in-Failed-clause-came
-returns-in-Failed-clause-came g c = λ settings start held kept follows.
+returns-in-Failed-clause-came g c = λ settings start stored kept follows.
     let inv = c.loop-turn.invariant in
     let host = c.loop-turn.host in
     let came = c.next-got.new.self in
@@ -149,11 +149,11 @@ returns-in-Failed-clause-came g c = λ settings start held kept follows.
     let zs = g.H.Wire.acts came in
     let moment = g.H.Wire.moment host in
     let now = g.H.Wire.moment came in
-    let Rests = RestsWith first (journal.Represents c.args.server.journal settings held) in
+    let Rests = RestsWith first (journal.Represents c.args.server.journal settings stored) in
     let L = LivesOn settings start server c.loop-turn._turn Rests first (g.H.Disk.media host) xs ys in
     let took_it = rw c.in-Failed.is at c.next-got.ensures.acts in
-    let lives = followed Rests L xs zs follows (inv.rested settings start held kept)
-    (either_on L L xs ys zs (added_by ys zs moment now (took event.Failed at) (λ _. Unit {0}) took_it tt) (λ l. l) (inv.lives settings start held kept)) in (
+    let lives = followed Rests L xs zs follows (inv.rested settings start stored kept)
+    (either_on L L xs ys zs (added_by ys zs moment now (took event.Failed at) (λ _. Unit {0}) took_it tt) (λ l. l) (inv.lives settings start stored kept)) in (
       resting lives.state,
       comes_to_end settings start server c.loop-turn._turn moment at event.Failed Rests first (g.H.Disk.media host) (g.H.Disk.media came) xs ys zs now (g.met.H.Host.one_moment host)
           (g.met.H.Host.wire_keeps host came c.next-got.ensures.beside).0 took_it lives stop.NextFailed (refl, refl) refl tt (refl, refl, refl) (λ front goes. (front, _, at, refl, refl, goes)),
@@ -168,7 +168,7 @@ returns-in-Failed-clause-adds g c =
 -- ---- at a restart the disk wasn't recovered
 
 pub returns-in-Err-clause-came : goal.returns-in-Err-clause-came
-returns-in-Err-clause-came g c = λ settings start held kept follows.
+returns-in-Err-clause-came g c = λ settings start stored kept follows.
     let inv = c.loop-turn.invariant in
     let host = c.loop-turn.host in
     let came = c.next-got.new.self in
@@ -186,11 +186,11 @@ returns-in-Err-clause-came g c = λ settings start held kept follows.
     let moment = g.H.Wire.moment host in
     let now = g.H.Wire.moment came in
     let here = g.met.H.Host.one_moment host in
-    let Rests = RestsWith first (journal.Represents c.args.server.journal settings held) in
+    let Rests = RestsWith first (journal.Represents c.args.server.journal settings stored) in
     let took_it = rw c.in-Restart.is at c.next-got.ensures.acts in
     let more = added_any zs (g.H.Wire.acts left) (λ more. more ≡ []) (none_added zs (g.H.Wire.acts left) keeps_left.0) in
     followed Rests _ xs (g.H.Wire.acts left) follows (λ rests.
-    let lives = inv.rested settings start held kept rests in
+    let lives = inv.rested settings start stored kept rests in
     let still = rests_came settings start server c.loop-turn._turn moment at event.Restart Rests first a b xs ys zs now here keeps.0 took_it lives rests in
     let size_came = subst (λ extent. needed_of server.journal.slots ≤ extent) (sym keeps.1) inv.size in
     let large = subst (λ slots. needed_of slots ≤ g.H.Disk.extent came) lives.kept.represents.slots size_came in (
@@ -257,11 +257,11 @@ returns-in-Err-handle g c =
     let moment = g.H.Wire.moment host in
     let now = g.H.Wire.moment came in
     let took_it = c.next-got.ensures.acts in record {
-      came = λ settings start held kept follows.
-          let Rests = RestsWith first (journal.Represents c.args.server.journal settings held) in
+      came = λ settings start stored kept follows.
+          let Rests = RestsWith first (journal.Represents c.args.server.journal settings stored) in
           let L = LivesOn settings start server c.loop-turn._turn Rests first (g.H.Disk.media host) xs ys in
-          let lives = followed Rests L xs vs follows (inv.rested settings start held kept)
-          (either_on L L xs ys vs (added_on ys zs vs (added_by ys zs moment now (took what at) (λ _. Unit {0}) took_it tt) c.handle.ensures.adds) (λ l. l) (inv.lives settings start held kept)) in
+          let lives = followed Rests L xs vs follows (inv.rested settings start stored kept)
+          (either_on L L xs ys vs (added_on ys zs vs (added_by ys zs moment now (took what at) (λ _. Unit {0}) took_it tt) c.handle.ensures.adds) (λ l. l) (inv.lives settings start stored kept)) in
           let over = c.in-Err-handle.ensures.failed settings lives.state lives.few lives.kept in (
             record { last = over.last.left; owed = each_telling over.last.left over.last.sends },
             comes_to_failure settings start server c.loop-turn._turn moment at what Rests first (g.H.Disk.media host) (g.H.Disk.media came) xs ys zs now (g.met.H.Host.one_moment host) keeps.0 took_it lives
@@ -279,13 +279,13 @@ returns-in-Err-handle g c =
 -- ---- the loop has run out
 
 pub returns-clause-came : goal.returns-clause-came
-returns-clause-came g c = λ settings start held kept follows.
+returns-clause-came g c = λ settings start stored kept follows.
     let first = g.H.Disk.media c.args.host.now in
     let media = g.H.Disk.media c.loop-turn.host in
     let xs = g.H.Wire.acts c.args.host.now in
     let ys = g.H.Wire.acts c.loop-turn.host in
-    let Rests = RestsWith first (journal.Represents c.args.server.journal settings held) in
-    let lives = followed Rests (LivesOn settings start c.loop-turn.server c.loop-turn._turn Rests first media xs ys) xs ys follows (c.loop-turn.invariant.rested settings start held kept) (c.loop-turn.invariant.lives settings start held kept) in (
+    let Rests = RestsWith first (journal.Represents c.args.server.journal settings stored) in
+    let lives = followed Rests (LivesOn settings start c.loop-turn.server c.loop-turn._turn Rests first media xs ys) xs ys follows (c.loop-turn.invariant.rested settings start stored kept) (c.loop-turn.invariant.lives settings start stored kept) in (
       resting lives.state,
       record {
         settled = refl;

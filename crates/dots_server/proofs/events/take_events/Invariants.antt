@@ -20,11 +20,11 @@ invariant-loop-turn g l = record {
   size : needed_of l.server.journal.slots ≤ g.H.Disk.extent l.host;
   settings : l.server.settings ≡ l.fn.server.settings;
   adds : Added (g.H.Wire.acts l.fn.host) (g.H.Wire.acts l.host) (λ _. Unit {0});
-  rested : (settings : SettingsValue) (start : State) (held : List Entry) → IsKept l.fn.server settings start held → RestsWith (g.H.Disk.media l.fn.host) (journal.Represents l.fn.server.journal settings held)
-      → LivesOn settings start l.server l._turn (RestsWith (g.H.Disk.media l.fn.host) (journal.Represents l.fn.server.journal settings held)) (g.H.Disk.media l.fn.host) (g.H.Disk.media l.host)
+  rested : (settings : SettingsValue) (start : State) (stored : List Entry) → IsKept l.fn.server settings start stored → RestsWith (g.H.Disk.media l.fn.host) (journal.Represents l.fn.server.journal settings stored)
+      → LivesOn settings start l.server l._turn (RestsWith (g.H.Disk.media l.fn.host) (journal.Represents l.fn.server.journal settings stored)) (g.H.Disk.media l.fn.host) (g.H.Disk.media l.host)
       (g.H.Wire.acts l.fn.host) (g.H.Wire.acts l.host);
-  lives : (settings : SettingsValue) (start : State) (held : List Entry) → IsKept l.fn.server settings start held
+  lives : (settings : SettingsValue) (start : State) (stored : List Entry) → IsKept l.fn.server settings start stored
       → Added (g.H.Wire.acts l.fn.host) (g.H.Wire.acts l.host) AnyRestart
-      ⊎ LivesOn settings start l.server l._turn (RestsWith (g.H.Disk.media l.fn.host) (journal.Represents l.fn.server.journal settings held)) (g.H.Disk.media l.fn.host) (g.H.Disk.media l.host)
+      ⊎ LivesOn settings start l.server l._turn (RestsWith (g.H.Disk.media l.fn.host) (journal.Represents l.fn.server.journal settings stored)) (g.H.Disk.media l.fn.host) (g.H.Disk.media l.host)
       (g.H.Wire.acts l.fn.host) (g.H.Wire.acts l.host);
 }

@@ -5,4 +5,4 @@ use Rattle.filter_table.proofs.acls.activate_all.Given as goal
 
 abbrev pub invariant-loop-list : goal.invariant-loop-list
 invariant-loop-list l =
-    l.held ≡ map (activated l.domain l.cuid l.active) (take l.list-index l.fn.held) ++ drop l.list-index l.fn.held
+    l.placed ≡ map (activated l.domain l.cuid l.active) (take l.list-index l.fn.placed) ++ drop l.list-index l.fn.placed

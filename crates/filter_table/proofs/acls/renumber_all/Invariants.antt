@@ -5,6 +5,6 @@ use Rattle.filter_table.proofs.acls.renumber_all.Given as goal
 
 abbrev pub invariant-loop-list : goal.invariant-loop-list
 invariant-loop-list l =
-    (take l.list-index l.held ++ renumbered_from place_of_acl acl_at_place l.last l.number (drop l.list-index l.held)
-    ≡ renumbered place_of_acl acl_at_place l.fn.held)
+    (take l.list-index l.placed ++ renumbered_from place_of_acl acl_at_place l.last l.number (drop l.list-index l.placed)
+    ≡ renumbered place_of_acl acl_at_place l.fn.placed)
     × (l.number ≤ l.list-index)

@@ -5,8 +5,8 @@ use Rattle.filter_table.proofs.laws.acls_stay_in_order.Goals as goal
 
 pub returns : goal.returns
 returns c = record {
-  set = λ list held order. order_insert place_of_acl list held order;
-  dropped = λ domain cuid name held order. order_filter place_of_acl (λ list. not (is_named domain cuid name list)) held order;
-  activated = λ domain cuid active held order. order_map place_of_acl (activated domain cuid active) (activated_place domain cuid active) held order;
-  renumbered = λ held. order_renumbered place_of_acl acl_at_place (λ n x. refl) held;
+  set = λ list placed order. order_insert place_of_acl list placed order;
+  dropped = λ domain cuid name placed order. order_filter place_of_acl (λ list. not (is_named domain cuid name list)) placed order;
+  activated = λ domain cuid active placed order. order_map place_of_acl (activated domain cuid active) (activated_place domain cuid active) placed order;
+  renumbered = λ placed. order_renumbered place_of_acl acl_at_place (λ n x. refl) placed;
 }

@@ -5,8 +5,8 @@ use Rattle.filter_table.proofs.laws.scrubs_stay_in_order.Goals as goal
 
 pub returns : goal.returns
 returns c = record {
-  installed = λ scrub held order. order_insert place_of_scrub scrub held order;
-  removed = λ domain cuid mid held order. order_filter place_of_scrub (λ scrub. not (is_of domain cuid mid scrub)) held order;
-  woken = λ domain cuid mid active held order. order_map place_of_scrub (woken domain cuid mid active) (woken_place domain cuid mid active) held order;
-  renumbered = λ held. order_renumbered place_of_scrub scrub_at_place (λ n x. refl) held;
+  installed = λ scrub placed order. order_insert place_of_scrub scrub placed order;
+  removed = λ domain cuid mid placed order. order_filter place_of_scrub (λ scrub. not (is_of domain cuid mid scrub)) placed order;
+  woken = λ domain cuid mid active placed order. order_map place_of_scrub (woken domain cuid mid active) (woken_place domain cuid mid active) placed order;
+  renumbered = λ placed. order_renumbered place_of_scrub scrub_at_place (λ n x. refl) placed;
 }

@@ -5,8 +5,8 @@ use Rattle.filter_table.proofs.laws.slots_stay_apart.Goals as goal
 
 pub returns : goal.returns
 returns c = record {
-  installed = λ scrub held none apart. apart_installed scrub held _ none apart;
-  removed = λ domain cuid mid held apart. apart_filter (λ scrub. not (is_of domain cuid mid scrub)) held apart;
-  woken = λ domain cuid mid active held apart. apart_map (woken domain cuid mid active) (woken_slot domain cuid mid active) held apart;
+  installed = λ scrub placed none apart. apart_installed scrub placed _ none apart;
+  removed = λ domain cuid mid placed apart. apart_filter (λ scrub. not (is_of domain cuid mid scrub)) placed apart;
+  woken = λ domain cuid mid active placed apart. apart_map (woken domain cuid mid active) (woken_slot domain cuid mid active) placed apart;
   renumbered = apart_renumbered;
 }

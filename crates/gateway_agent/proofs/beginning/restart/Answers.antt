@@ -7,7 +7,7 @@ use Rattle.gateway_store.specs.Forms.{entries_of}
 use Rattle.gateway_store.specs.Stores.{IsOn}
 use Rattle.gateway_agent.specs.Keeping.{agent}
 use Rattle.gateway_agent.proofs.Opening.{found_again, ok_both, restarted_in}
-use Rattle.gateway_agent.proofs.Runs.{represents_holds}
+use Rattle.gateway_agent.proofs.Runs.{represents_has}
 use Rattle.gateway_agent.proofs.beginning.restart.Goals as goal
 
 pub returns-clause-restarted : goal.returns-clause-restarted
@@ -31,7 +31,7 @@ returns-clause-moments g c = λ rests.
     let settings = c.args.settings.now in
     let media = g.D.Disk.media c.args.disk.now in
     let (seen, rest, on) = seen_at_rest media (IsOn settings c.args.store) rests in
-    c.begin.ensures.moments seen (entries_of c.args.store.exchanges) rest (represents_holds c.args.store.journal settings (entries_of c.args.store.exchanges) seen on)
+    c.begin.ensures.moments seen (entries_of c.args.store.exchanges) rest (represents_has c.args.store.journal settings (entries_of c.args.store.exchanges) seen on)
 
 pub returns-clause-found : goal.returns-clause-found
 returns-clause-found g c =
@@ -40,6 +40,6 @@ returns-clause-found g c =
     if_err_as c.begin.result _ _
     (λ fault fails joined rests size.
     let (seen, rest, on) = seen_at_rest media (IsOn settings c.args.store) rests in
-    fails seen c.args.store.exchanges (sees_at_rest media seen rest) (represents_holds c.args.store.journal settings (entries_of c.args.store.exchanges) seen on)
+    fails seen c.args.store.exchanges (sees_at_rest media seen rest) (represents_has c.args.store.journal settings (entries_of c.args.store.exchanges) seen on)
     (subst (λ (s : ℕ). IsStore (most_young s) c.args.store.exchanges) c.requires.of.slots joined.order) size)
     c.begin.ensures.complete

@@ -3,7 +3,7 @@ use Rattle.dots_disk.specs.Becoming.{Leaves}
 use Rattle.slot_store.proofs.Steps.{begins}
 use Rattle.dots_gateway.specs.declared.exchange.Exchange.{Exchange}
 use Rattle.gateway_store.specs.Exchanges.{most_young}
-use Rattle.gateway_agent.specs.Keeping.{CanKeepAll, HoldsMore, IsMore}
+use Rattle.gateway_agent.specs.Keeping.{CanKeepAll, HasMore, IsMore}
 use Rattle.gateway_agent.proofs.Storing.{one_kept, ok_three}
 use Rattle.gateway_agent.proofs.keeping.keep_fresh.Goals as goal
 
@@ -18,7 +18,7 @@ returns-in-Some g c =
     let can = subst (λ (xs : List Exchange). CanKeepAll old xs) c.in-Some.ensures c.requires.can in
     record {
       moments = λ settings rests.
-          subst (λ (xs : List Exchange). Leaves (g.D.Disk.media c.args.disk.now) (g.D.Disk.media c.keep.new.disk) (HoldsMore settings most old.exchanges xs)) (sym c.in-Some.ensures)
+          subst (λ (xs : List Exchange). Leaves (g.D.Disk.media c.args.disk.now) (g.D.Disk.media c.keep.new.disk) (HasMore settings most old.exchanges xs)) (sym c.in-Some.ensures)
           (c.keep.ensures.moments settings rests);
       rests = c.keep.ensures.rests;
       more = ok_three c.keep.result

@@ -42,7 +42,7 @@ returns-in-Err-take_all-clause-machine g c =
 
 -- what the disk held is found again at each restart
 pub returns-in-Err-take_all-clause-complete : goal.returns-in-Err-take_all-clause-complete
-returns-in-Err-take_all-clause-complete g c = λ seen exchanges sees holds store size.
+returns-in-Err-take_all-clause-complete g c = λ seen exchanges sees image_has store size.
     let begun = c.in-Ok.begun in
     let came = c.in-Err-take_all.ensures.came (opened c.args.settings.now c.args.upstream begun.1.exchanges 0) c.in-Ok.ensures.begun.1 (inl (c.in-Ok.ensures.opened seen sees).1) in
     completes_by c.in-Err-take_all.how came.1.found

@@ -15,7 +15,7 @@ use Rattle.dots_gateway.specs.Gateway.{GatewayValue}
 use Rattle.gateway_agent.specs.declared.stopping.GatewayHalt.TheVariants as halt
 use Rattle.gateway_agent.specs.Passing.{GatewayState, restarted}
 use Rattle.gateway_agent.specs.Keeping.{IsIn, agent}
-use Rattle.gateway_agent.specs.Turning.{HoldsTurn}
+use Rattle.gateway_agent.specs.Turning.{HasTurn}
 use Rattle.gateway_agent.proofs.Following.{added_any, restarted_on, restarted_now, taken_on, added_on, either_on, followed}
 use Rattle.gateway_agent.proofs.Opening.{restart_writes}
 use Rattle.gateway_agent.proofs.Restarting.{restart_took, unrecovered_stops, stops_more, rose_since, taken_of}
@@ -265,7 +265,7 @@ returns-in-Err g c =
               trace = lives.trace ++ restarted lives.state at ∷ [];
               told = comes_unsent settings most start now c.loop-turn._turn moment at event.Restart Rests first a b xs ys zs later (g.met.H.Host.one_moment host) keeps.0 took_it lives
                   (Err (halt.Unrecovered c.in-Err.fault)) [] (restarted lives.state at) (g.H.Disk.media left) vs (refl, refl) ([], sym (append-nil lives.state.kept)) (omega arith) keeps_left.0
-                  (λ rest. subst (λ (m : ℕ). Leaves b (g.H.Disk.media left) (HoldsTurn settings m lives.state (restarted lives.state at))) lives.many
+                  (λ rest. subst (λ (m : ℕ). Leaves b (g.H.Disk.media left) (HasTurn settings m lives.state (restarted lives.state at))) lives.many
                   (restart_writes settings now lives.state at b (g.H.Disk.media left) lives.is_in (c.restart.ensures.moments rest)))
                   (λ front goes. (front, _, at, refl, refl, goes));
             },
@@ -327,7 +327,7 @@ returns-in-Err-take g c =
               trace = lives.trace ++ over.new ∷ [];
               told = comes_unsent settings most start now c.loop-turn._turn moment at what Rests first a b xs ys zs later (g.met.H.Host.one_moment host) keeps.0 took_it lives
                   (Err halt.DiskFailed) over.outs over.new (g.H.Disk.media left) vs over.made over.grows over.timely over.broke.silent
-                  (subst (λ (m : ℕ). RestsWith b (IsOn settings c.loop-turn.store) → Leaves b (g.H.Disk.media left) (HoldsTurn settings m lives.state over.new)) lives.many over.broke.writes)
+                  (subst (λ (m : ℕ). RestsWith b (IsOn settings c.loop-turn.store) → Leaves b (g.H.Disk.media left) (HasTurn settings m lives.state over.new)) lives.many over.broke.writes)
                   (λ front goes. (front, _, what, at, refl, refl, go_on_then front _ goes (goes_on, tt)));
             },
           );

@@ -6,5 +6,5 @@ returns-clause-runs g c = λ left left_now faults faults_now. record {
   behaves = c.run_gateway-how.ensures.machine;
   failed = c.run_gateway-how.ensures.ended;
   opens = c.run_gateway-how.ensures.complete;
-  tells = c.tell.ensures.tells;
+  reports_end = c.report_end.ensures.tells;
 }

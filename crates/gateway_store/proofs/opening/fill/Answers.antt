@@ -4,7 +4,7 @@ use Rattle.std.proofs.lemmas.Result.{err_from_is_err_and}
 use Rattle.dots_disk.specs.Becoming.{RestsWith}
 use Rattle.slot_store.proofs.DiskReading.{sees_at_rest}
 use Rattle.slot_store.specs.StoreValues.{JournalValue}
-use Rattle.slot_journal.specs.DiskEntries.{Holds, Represents}
+use Rattle.slot_journal.specs.DiskEntries.{HasEntries, Represents}
 use Rattle.gateway_store.specs.Exchanges.{IsStore, most_young}
 use Rattle.gateway_store.specs.Forms.{entry_of}
 use Rattle.gateway_store.proofs.Strays.{used_many, refuses_stray, refuses_more, caused_entries}
@@ -96,7 +96,7 @@ returns g c =
       moments = c.in_ok-journal.ensures.moments;
       recovered = λ seen sees.
           let found = c.in_ok-journal.ensures.recovered seen sees in (
-            subst (Holds c.args.settings.now seen) taken found.0,
+            subst (HasEntries c.args.settings.now seen) taken found.0,
             subst (λ es. RestsWith (g.D.Disk.media c.recover.new.disk) (Represents c.in_ok-journal.journal c.args.settings.now es)) taken found.1,
           );
       store = subst (λ n. IsStore (most_young n) c.take_all.new.exchanges.items) c.in_ok-journal.ensures.size.0 c.in_ok-take_all.ensures.store;

@@ -7,14 +7,14 @@ use Rattle.http_cut.proofs.taking.take_pieces.Goals as goal
 pub returns-then-not-is_waiting : goal.returns-then-not-is_waiting
 returns-then-not-is_waiting c =
     let brought = flat_map (λ piece. piece.now) c.args.pieces.now in
-    let over : is_waiting c.take_out-held.result ≡ false = search rules in
-    come_ends c.args.stream.now brought brought c.args.stream.now c.take_out-held.new.stream _ (owned_values c.args.out.now) _ c.take_out-held.result over (come_none c.args.stream.now brought (owned_values c.args.out.now)) c.take_out-held.ensures
+    let over : is_waiting c.take_out-buffered.result ≡ false = search rules in
+    come_ends c.args.stream.now brought brought c.args.stream.now c.take_out-buffered.new.stream _ (owned_values c.args.out.now) _ c.take_out-buffered.result over (come_none c.args.stream.now brought (owned_values c.args.out.now)) c.take_out-buffered.ensures
 
 pub loop-piece-init : goal.loop-piece-init
 loop-piece-init c =
     let brought = flat_map (λ piece. piece.now) c.args.pieces.now in
-    let waiting : is_waiting c.take_out-held.result ≡ true = search rules in
-    let come = come_then c.args.stream.now brought brought c.args.stream.now c.take_out-held.new.stream _ (owned_values c.args.out.now) _ c.take_out-held.result waiting (come_none c.args.stream.now brought (owned_values c.args.out.now)) c.take_out-held.ensures in
+    let waiting : is_waiting c.take_out-buffered.result ≡ true = search rules in
+    let come = come_then c.args.stream.now brought brought c.args.stream.now c.take_out-buffered.new.stream _ (owned_values c.args.out.now) _ c.take_out-buffered.result waiting (come_none c.args.stream.now brought (owned_values c.args.out.now)) c.take_out-buffered.ensures in
     record { come = come.0; waiting = come.1 }
 
 pub returns-then-not-is_waiting-2 : goal.returns-then-not-is_waiting-2

@@ -1,5 +1,5 @@
 use Rattle.std.proofs.lemmas.Result.{err_from_is_err_and}
-use Rattle.slot_journal.proofs.Crashing.{left_holds, left_not_refused, on_ok_as, survived}
+use Rattle.slot_journal.proofs.Crashing.{left_has_entries, left_not_refused, on_ok_as, survived}
 use Rattle.slot_journal.proofs.laws.survives_crash.Goals as goal
 
 pub returns-in_err-entries-clause-spared : goal.returns-in_err-entries-clause-spared
@@ -7,7 +7,7 @@ returns-in_err-entries-clause-spared g c =
     let p = err_from_is_err_and c.from_residual.result c.from_residual.ensures.1 in
     rw (p.1, p.2) (λ before image represents left sees refusal.
     left_not_refused c.args.settings.now (g.C.Disk.extent c.args.left.now) before _ image _
-    (left_holds _ _ c.args.journal.now c.args.settings.now before _ image represents (c.append-answer.ensures.moments c.args.settings.now before represents) left)
+    (left_has_entries _ _ c.args.journal.now c.args.settings.now before _ image represents (c.append-answer.ensures.moments c.args.settings.now before represents) left)
     (c.in_err-entries.ensures.refused image sees) refusal)
 
 pub returns-in_err-entries-clause-refused : goal.returns-in_err-entries-clause-refused
@@ -29,5 +29,5 @@ returns-clause-recovered g c = λ seen sees. (c.in_ok-entries.ensures.recovered 
 
 pub returns-clause-survived : goal.returns-clause-survived
 returns-clause-survived g c = λ before image represents left sees.
-    let either = left_holds _ _ c.args.journal.now c.args.settings.now before _ image represents (c.append-answer.ensures.moments c.args.settings.now before represents) left in
+    let either = left_has_entries _ _ c.args.journal.now c.args.settings.now before _ image represents (c.append-answer.ensures.moments c.args.settings.now before represents) left in
     survived c.args.settings.now before _ c.in_ok-entries.entries image either (c.in_ok-entries.ensures.recovered image sees).0

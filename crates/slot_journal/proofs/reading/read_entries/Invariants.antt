@@ -4,7 +4,7 @@ use Rattle.dots_disk.specs.Becoming.{KeepsMedia}
 use Rattle.slot_store.specs.Gates.{Sees}
 use Rattle.slot_store.specs.Refusing.{IsCount}
 use Rattle.slot_journal.specs.DiskEntries.{HasRecord}
-use Rattle.slot_journal.specs.Refused.{HoldsFirst}
+use Rattle.slot_journal.specs.Refused.{HasFirst}
 use Rattle.slot_journal.proofs.reading.read_entries.Given as goal
 
 abbrev pub invariant-loop-slot : goal.invariant-loop-slot
@@ -15,5 +15,5 @@ invariant-loop-slot g l = record {
   beside : g.D.Disk.beside l.fn.disk l.disk;
   count : length l.entries ≡ l.slot;
   each : AllByRecursion HasRecord l.entries;
-  held : (seen : ℕ → ℕ) → Sees (g.D.Disk.media l.fn.disk) seen → IsCount l.store.slots (l.store.selector % 2) seen l.store.used → HoldsFirst l.store.slots (l.store.selector % 2) seen l.entries;
+  filled : (seen : ℕ → ℕ) → Sees (g.D.Disk.media l.fn.disk) seen → IsCount l.store.slots (l.store.selector % 2) seen l.store.used → HasFirst l.store.slots (l.store.selector % 2) seen l.entries;
 }

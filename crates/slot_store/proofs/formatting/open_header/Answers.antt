@@ -4,17 +4,17 @@ use Rattle.dots_disk.specs.Becoming.{KeepsMedia, RestsWith}
 use Rattle.slot_store.specs.Gates.{Sees}
 use Rattle.slot_store.specs.Opening.{Is}
 use Rattle.slot_store.specs.Refusing.{RefusesDisk, IsOpen}
-use Rattle.slot_store.specs.Layout.{HoldsRecords}
+use Rattle.slot_store.specs.Layout.{HasRecords}
 use Rattle.slot_store.specs.declared.fault.OpenFault.TheVariants as OpenFault
 use Rattle.slot_store.proofs.DiskReading.{sees_at_rest, rests_unchanged}
 use Rattle.slot_store.proofs.Steps.{leaves_then}
-use Rattle.slot_store.proofs.OpenLemmas.{holds_still, if_ok_as, if_err_as}
+use Rattle.slot_store.proofs.OpenLemmas.{has_still, if_ok_as, if_err_as}
 use Rattle.slot_store.proofs.formatting.open_header.Goals as goal
 
 pub returns-in-Ok-clause-moments : goal.returns-in-Ok-clause-moments
-returns-in-Ok-clause-moments g c = λ seen records rests holds.
-    leaves_then _ _ _ (λ image. HoldsRecords c.args.slots c.args.digest.now image records) (holds_still _ _ c.args.slots c.args.digest.now seen records (c.in-Ok.ensures.moments seen rests) holds)
-    (c.open_found.ensures.moments seen records (c.in-Ok.ensures.rests seen (sees_at_rest _ seen rests)) (c.in-Ok.ensures.bytes seen (sees_at_rest _ seen rests)) holds)
+returns-in-Ok-clause-moments g c = λ seen records rests image_has.
+    leaves_then _ _ _ (λ image. HasRecords c.args.slots c.args.digest.now image records) (has_still _ _ c.args.slots c.args.digest.now seen records (c.in-Ok.ensures.moments seen rests) image_has)
+    (c.open_found.ensures.moments seen records (c.in-Ok.ensures.rests seen (sees_at_rest _ seen rests)) (c.in-Ok.ensures.bytes seen (sees_at_rest _ seen rests)) image_has)
 
 pub returns-in-Ok-clause-opened : goal.returns-in-Ok-clause-opened
 returns-in-Ok-clause-opened g c = if_ok_as c.open_found.result
@@ -29,7 +29,7 @@ returns-in-Ok-clause-refused g c = if_err_as c.open_found.result
     (λ fault refuses seen sees. refuses seen (c.in-Ok.ensures.rests seen sees) (c.in-Ok.ensures.bytes seen sees)) c.open_found.ensures.refused
 
 pub returns-in-Err-clause-moments : goal.returns-in-Err-clause-moments
-returns-in-Err-clause-moments g c = λ seen records rests holds. holds_still _ _ c.args.slots c.args.digest.now seen records (c.in-Err.ensures.moments seen rests) holds
+returns-in-Err-clause-moments g c = λ seen records rests image_has. has_still _ _ c.args.slots c.args.digest.now seen records (c.in-Err.ensures.moments seen rests) image_has
 
 pub returns-in-Ok-clause-unwritten : goal.returns-in-Ok-clause-unwritten
 returns-in-Ok-clause-unwritten g c = if_err_as c.open_found.result

@@ -11,7 +11,7 @@ pub invariant_of-self : goal.invariant_of-self
 invariant_of-self c = record {
   bounded =
       subst (AreBounded c.self.inside.pairs c.self.inside.room) (sym c.retain_others.ensures.items)
-      (bounded_filtered c.self.inside.pairs c.self.inside.room (λ o. not (is_token c.args.peer c.args.token.now o)) (observed_of c.self.inside.roll.rows) c.self.invariant.bounded);
+      (bounded_filtered c.self.inside.pairs c.self.inside.room (λ o. not (is_token c.args.peer c.args.token.now o)) (observed_of c.self.inside.roll.members) c.self.invariant.bounded);
   reserved = omega (arith, c.self.invariant.reserved, c.retain_others.ensures.capacity);
   chained = c.retain_others.ensures.chained;
   rooms = rooms_stay c.self.inside.pairs c.self.inside.room c.self.inside.chains _ c.retain_others.ensures.room c.self.invariant.rooms;

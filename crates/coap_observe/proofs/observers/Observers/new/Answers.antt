@@ -13,10 +13,10 @@ invariant_of-result c =
     let limit = c.room.result in
     let chains = ap (λ (v : ChainsValue). v.chains) c.in_ok-chains.ensures ∙ ap (λ ps. empty_chains ps room limit ps) c.pairs-3.ensures in
     record {
-      bounded = subst (λ rows. AreBounded pairs room (observed_of rows)) (sym c.in_ok-roll.ensures.rows) (none_bounded pairs room);
+      bounded = subst (λ members. AreBounded pairs room (observed_of members)) (sym c.in_ok-roll.ensures.rows) (none_bounded pairs room);
       reserved = search rules;
       chained =
-          subst (λ rows. AreChained c.in_ok-chains.chains.chains rows) (sym c.in_ok-roll.ensures.rows)
+          subst (λ members. AreChained c.in_ok-chains.chains.chains members) (sym c.in_ok-roll.ensures.rows)
           (subst (λ cs. AreChained cs []) (sym chains) (none_chained pairs room limit pairs));
       rooms = λ peer. ap (room_in peer) chains ∙ rooms_begin room limit pairs peer;
       limit = omega (arith, ap (λ (v : ChainsValue). v.limit) c.in_ok-chains.ensures, c.room.ensures);

@@ -12,7 +12,7 @@ has_room-requires g c = c.self.invariant.chained
 
 pub enter-requires : goal.enter-requires
 enter-requires g c =
-    let observed = observed_of c.self.inside.roll.rows in
+    let observed = observed_of c.self.inside.roll.members in
     let has = sym c.has_room.ensures ∙ c.if-has_room.true in
     let pair = ap (λ (v : ObserversValue). list_any (is_pair c.args.observer.peer c.args.observer.domain) v.pairs) c.self.view_is ∙ c.requires in
     let bounded = bounded_entered c.self.inside.pairs c.self.inside.room c.args.observer c.of-seen.result observed has pair c.self.invariant.bounded in
@@ -28,7 +28,7 @@ enter-requires g c =
 
 pub invariant_of-self : goal.invariant_of-self
 invariant_of-self g c =
-    let observed = observed_of c.self.inside.roll.rows in
+    let observed = observed_of c.self.inside.roll.members in
     let has = sym c.has_room.ensures ∙ c.if-has_room.true in
     let pair = ap (λ (v : ObserversValue). list_any (is_pair c.args.observer.peer c.args.observer.domain) v.pairs) c.self.view_is ∙ c.requires in
     let bounded = bounded_entered c.self.inside.pairs c.self.inside.room c.args.observer c.of-seen.result observed has pair c.self.invariant.bounded in

@@ -8,4 +8,4 @@ pub returns : goal.returns
 returns c =
     c.get.ensures
     ∙ sym (found (get c.self.inside.ones) c.args.key c.self.inside.order.slots c.self.invariant.kept)
-    ∙ ap (λ (r : RollValue). one_at c.args.key r.rows) c.self.view_is
+    ∙ ap (λ (r : RollValue). one_at c.args.key r.members) c.self.view_is

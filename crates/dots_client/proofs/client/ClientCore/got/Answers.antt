@@ -1,6 +1,6 @@
 use Rattle.std.proofs.Common.{refl, sym, subst, inl, inr}
 use Rattle.coap_message.specs.Message.{CoapMessage}
-use Rattle.dots_client.specs.Hearing.{IsBeat, Answers}
+use Rattle.dots_client.specs.Receiving.{IsBeat, Answers}
 use Rattle.dots_client.proofs.Ends.{same_message}
 use Rattle.dots_client.proofs.client.ClientCore.got.Goals as goal
 

@@ -1,7 +1,7 @@
 use Rattle.std.proofs.Common.{ap, sym, ◌∙◌}
 use Rattle.std.specs.Prelude.{position}
 use Rattle.dots_client.specs.Client.{ClientValue}
-use Rattle.dots_client.specs.Hearing.{waits_by}
+use Rattle.dots_client.specs.Receiving.{waits_by}
 use Rattle.dots_client.proofs.Beside.{by_none}
 use Rattle.dots_client.proofs.Ends.{no_place}
 use Rattle.dots_client.proofs.client.ClientCore.place_of.Goals as goal

@@ -1,6 +1,6 @@
 use Rattle.std.proofs.Common.{ap, ◌∙◌}
 use Rattle.std.specs.Prelude.{position}
-use Rattle.dots_client.specs.Hearing.{has_token, waits_by}
+use Rattle.dots_client.specs.Receiving.{has_token, waits_by}
 use Rattle.dots_client.specs.Waiting.{RequestsValue}
 use Rattle.dots_client.proofs.Beside.{pairs_place}
 use Rattle.dots_client.proofs.waiting.Waiting.place.Goals as goal

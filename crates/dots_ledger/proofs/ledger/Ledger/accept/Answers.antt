@@ -6,7 +6,7 @@ use Rattle.slot_store.proofs.Steps.{leaves_then}
 use Rattle.slot_store.specs.StoreValues.{JournalValue}
 use Rattle.slot_journal.specs.DiskEntries as journal
 use Rattle.dots_ledger.specs.LedgerValues.{LedgerValue, Represents, joins_at, once_free}
-use Rattle.dots_ledger.specs.Crashes.{HoldsEither, HoldsOne}
+use Rattle.dots_ledger.specs.Crashes.{HasEither, HasOne}
 use Rattle.dots_ledger.proofs.Answering.{ok_as, err_as}
 use Rattle.dots_ledger.proofs.Images.{leaves_compacting, leaves_appending}
 use Rattle.dots_ledger.proofs.ledger.Ledger.accept.Goals as goal
@@ -64,13 +64,13 @@ returns-in-Ok g c = record {
       start
       between
       end
-      (HoldsEither settings n t history c.args.staged)
+      (HasEither settings n t history c.args.staged)
       (leaves_compacting start between c.args.self.now settings history entries c.args.staged represents (c.make_room.ensures.moments settings history entries represents rests))
       (subst
-      (λ (u : ℕ). Leaves between end (HoldsEither settings n u history c.args.staged))
+      (λ (u : ℕ). Leaves between end (HasEither settings n u history c.args.staged))
       c.make_room.ensures.time
       (subst
-      (λ (k : ℕ). Leaves between end (HoldsEither settings k later history c.args.staged))
+      (λ (k : ℕ). Leaves between end (HasEither settings k later history c.args.staged))
       c.make_room.ensures.number
       (leaves_appending
       between
@@ -118,7 +118,7 @@ returns-in-Ok g c = record {
   appends = λ free settings history entries represents rests.
       let still = c.make_room.ensures.free free in
       subst
-      (λ media. Leaves media (g.D.Disk.media c.append.new.disk) (HoldsOne settings entries (entries ++ c.args.staged ∷ [])))
+      (λ media. Leaves media (g.D.Disk.media c.append.new.disk) (HasOne settings entries (entries ++ c.args.staged ∷ [])))
       still.1
       (c.append.ensures.moments settings history entries
       (subst (λ (l : LedgerValue). Represents l settings history entries) (sym still.0) represents)

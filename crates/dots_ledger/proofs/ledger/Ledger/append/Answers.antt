@@ -7,7 +7,7 @@ use Rattle.dots_registry.specs.RegistryValues.{RegistryValue, time_of}
 use Rattle.slot_store.specs.StoreValues.{JournalValue}
 use Rattle.slot_journal.specs.DiskEntries as journal
 use Rattle.dots_ledger.specs.LedgerValues.{LedgerValue, Represents, RepresentsSome, CanAccept, joins_at}
-use Rattle.dots_ledger.specs.Crashes.{HoldsOne}
+use Rattle.dots_ledger.specs.Crashes.{HasOne}
 use Rattle.dots_ledger.proofs.LedgerValues.{most_same, joins_parts, fits_in, represents_more}
 use Rattle.dots_ledger.proofs.ledger.Ledger.append.Goals as goal
 
@@ -68,7 +68,7 @@ pub returns-in-Ok : goal.returns-in-Ok
 returns-in-Ok g c = record {
   moments = λ settings history entries represents rests.
       subst
-      (λ (e : Entry). Leaves (g.D.Disk.media c.args.disk.now) (g.D.Disk.media c.append.new.disk) (HoldsOne settings entries (entries ++ e ∷ [])))
+      (λ (e : Entry). Leaves (g.D.Disk.media c.args.disk.now) (g.D.Disk.media c.append.new.disk) (HasOne settings entries (entries ++ e ∷ [])))
       c.entry.ensures
       (c.append.ensures.moments settings entries
       (subst (λ (l : LedgerValue). RestsWith (g.D.Disk.media c.args.disk.now) (journal.Represents l.journal settings entries)) (sym c.self.view_is) rests));
@@ -121,7 +121,7 @@ returns-in-Err g c =
     record {
       moments = λ settings history entries represents rests.
           subst
-          (λ (e : Entry). Leaves (g.D.Disk.media c.args.disk.now) (g.D.Disk.media c.append.new.disk) (HoldsOne settings entries (entries ++ e ∷ [])))
+          (λ (e : Entry). Leaves (g.D.Disk.media c.args.disk.now) (g.D.Disk.media c.append.new.disk) (HasOne settings entries (entries ++ e ∷ [])))
           c.entry.ensures
           (c.append.ensures.moments settings entries
           (subst (λ (l : LedgerValue). RestsWith (g.D.Disk.media c.args.disk.now) (journal.Represents l.journal settings entries)) (sym c.self.view_is) rests));

@@ -1,7 +1,7 @@
 use Rattle.std.proofs.Common.{inl, refl}
 use Rattle.std.proofs.lemmas.Result.{err_from_is_err_and}
 use Rattle.slot_store.proofs.Steps.{begins}
-use Rattle.slot_journal.specs.DiskEntries.{Holds}
+use Rattle.slot_journal.specs.DiskEntries.{HasEntries}
 use Rattle.dots_ledger.proofs.ledger.Ledger.begin.Goals as goal
 
 -- ---- before the disk is touched
@@ -10,11 +10,11 @@ pub returns-in_err-keep : goal.returns-in_err-keep
 returns-in_err-keep g c =
     let p = err_from_is_err_and c.from_residual.result c.from_residual.ensures.1 in
     record {
-      moments = λ seen entries rests holds. begins (g.D.Disk.media c.args.disk.now) (λ image. Holds c.args.settings.now image entries);
+      moments = λ seen entries rests image_has. begins (g.D.Disk.media c.args.disk.now) (λ image. HasEntries c.args.settings.now image entries);
       recovered = rw p.1 tt;
       size = rw p.1 tt;
       refused = rw (p.1, p.2) (λ seen sees. tt);
-      complete = rw (p.1, p.2) (λ seen entries sees holds calm size. tt);
+      complete = rw (p.1, p.2) (λ seen entries sees image_has calm size. tt);
       unwritten = rw p.1 (λ seen other rests. inl rests);
       extent = refl;
       cause = rw (p.1, p.2) refl;
@@ -25,11 +25,11 @@ pub returns-in_err-registry : goal.returns-in_err-registry
 returns-in_err-registry g c =
     let p = err_from_is_err_and c.from_residual-in_err-registry.result c.from_residual-in_err-registry.ensures.1 in
     record {
-      moments = λ seen entries rests holds. begins (g.D.Disk.media c.args.disk.now) (λ image. Holds c.args.settings.now image entries);
+      moments = λ seen entries rests image_has. begins (g.D.Disk.media c.args.disk.now) (λ image. HasEntries c.args.settings.now image entries);
       recovered = rw p.1 tt;
       size = rw p.1 tt;
       refused = rw (p.1, p.2) (λ seen sees. tt);
-      complete = rw (p.1, p.2) (λ seen entries sees holds calm size. tt);
+      complete = rw (p.1, p.2) (λ seen entries sees image_has calm size. tt);
       unwritten = rw p.1 (λ seen other rests. inl rests);
       extent = refl;
       cause = rw (p.1, p.2) refl;

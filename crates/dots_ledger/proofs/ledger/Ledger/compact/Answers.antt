@@ -11,7 +11,7 @@ use Rattle.slot_store.specs.Copying.{AreSlots, other_selector}
 use Rattle.slot_store.specs.StoreValues.{JournalValue}
 use Rattle.slot_journal.specs.DiskEntries as journal
 use Rattle.dots_ledger.specs.LedgerValues.{LedgerValue, Represents, RepresentsSome}
-use Rattle.dots_ledger.specs.Crashes.{HoldsOne}
+use Rattle.dots_ledger.specs.Crashes.{HasOne}
 use Rattle.dots_ledger.proofs.Slots.{named_below, named_many}
 use Rattle.dots_ledger.proofs.LedgerValues.{most_same, number_same, represents_compacted}
 use Rattle.dots_ledger.proofs.Images.{entries_kept}
@@ -106,10 +106,10 @@ returns-in_err-compact g c =
     record {
       moments = λ settings history entries represents rests.
           subst
-          (λ (l : LedgerValue). Leaves (g.D.Disk.media c.args.disk.now) (g.D.Disk.media c.compact.new.disk) (HoldsOne settings entries (kept (number_remembered l.registry) (time_of l.registry) entries)))
+          (λ (l : LedgerValue). Leaves (g.D.Disk.media c.args.disk.now) (g.D.Disk.media c.compact.new.disk) (HasOne settings entries (kept (number_remembered l.registry) (time_of l.registry) entries)))
           c.self.view_is
           (subst
-          (λ (es : List Entry). Leaves (g.D.Disk.media c.args.disk.now) (g.D.Disk.media c.compact.new.disk) (HoldsOne settings entries es))
+          (λ (es : List Entry). Leaves (g.D.Disk.media c.args.disk.now) (g.D.Disk.media c.compact.new.disk) (HasOne settings entries es))
           (entries_kept (record { registry = c.self.inside.registry; journal = c.self.inside.journal }) settings history entries c.items.result.now (subst (λ (l : LedgerValue). Represents l settings history entries) (sym c.self.view_is) represents)
           (λ all represents_filed rises. c.items.ensures ∙ c.kept.ensures.kept all represents_filed rises))
           (c.compact.ensures.moments settings entries
@@ -137,10 +137,10 @@ returns g c =
     record {
       moments = λ settings history entries represents rests.
           subst
-          (λ (l : LedgerValue). Leaves (g.D.Disk.media c.args.disk.now) (g.D.Disk.media c.compact.new.disk) (HoldsOne settings entries (kept (number_remembered l.registry) (time_of l.registry) entries)))
+          (λ (l : LedgerValue). Leaves (g.D.Disk.media c.args.disk.now) (g.D.Disk.media c.compact.new.disk) (HasOne settings entries (kept (number_remembered l.registry) (time_of l.registry) entries)))
           c.self.view_is
           (subst
-          (λ (es : List Entry). Leaves (g.D.Disk.media c.args.disk.now) (g.D.Disk.media c.compact.new.disk) (HoldsOne settings entries es))
+          (λ (es : List Entry). Leaves (g.D.Disk.media c.args.disk.now) (g.D.Disk.media c.compact.new.disk) (HasOne settings entries es))
           (entries_kept (record { registry = c.self.inside.registry; journal = c.self.inside.journal }) settings history entries c.items.result.now (subst (λ (l : LedgerValue). Represents l settings history entries) (sym c.self.view_is) represents)
           (λ all represents_filed rises. c.items.ensures ∙ c.kept.ensures.kept all represents_filed rises))
           (c.compact.ensures.moments settings entries

@@ -6,7 +6,7 @@ use Rattle.dots_registry.specs.RegistryValues.{time_of, number_remembered}
 use Rattle.slot_store.proofs.Steps.{begins}
 use Rattle.slot_journal.specs.DiskEntries as journal
 use Rattle.dots_ledger.specs.LedgerValues.{LedgerValue, Represents}
-use Rattle.dots_ledger.specs.Crashes.{HoldsOne}
+use Rattle.dots_ledger.specs.Crashes.{HasOne}
 use Rattle.dots_ledger.proofs.Answering.{ok_as, err_of}
 use Rattle.dots_ledger.proofs.Making.{free_is, full_is}
 use Rattle.dots_ledger.proofs.ledger.Ledger.make_room.Goals as goal
@@ -21,7 +21,7 @@ returns-then-used-slots g c =
     let free : c.args.self.now.journal.used < c.args.self.now.journal.slots = omega (arith, used, slots, many, most, under) in
     record {
       moments = λ settings history entries represents rests.
-          begins (g.D.Disk.media c.args.disk.now) (HoldsOne settings entries (kept (number_remembered c.args.self.now.registry) (time_of c.args.self.now.registry) entries));
+          begins (g.D.Disk.media c.args.disk.now) (HasOne settings entries (kept (number_remembered c.args.self.now.registry) (time_of c.args.self.now.registry) entries));
       compacted = λ settings history entries represents. (
         subst (Represents c.args.self.now settings history) (sym (free_is c.args.self.now entries free)) represents,
         λ rests.

@@ -12,8 +12,8 @@ returns-clause-leads g c = λ start.
     let holds = g.K.Sink.holds in
     let inside = c.self.inside in
     let got = c.next_event-got.result in
-    let old : Outer = record { script = to_come inside.block (left inside.source); held = holds inside.sink; failures = faults inside.source } in
-    let new : Outer = record { script = to_come c.next_event-got.new.block (left c.next_event-got.new.source); held = holds inside.sink; failures = faults c.next_event-got.new.source } in
+    let old : Outer = record { script = to_come inside.block (left inside.source); written = holds inside.sink; failures = faults inside.source } in
+    let new : Outer = record { script = to_come c.next_event-got.new.block (left c.next_event-got.new.source); written = holds inside.sink; failures = faults c.next_event-got.new.source } in
     let disk = c.note_taken.new.self in
     let step = accounts_taken start old new (wire_acts 0 inside.disk.acts) (wire_acts 0 disk.acts) (length inside.disk.acts) (length disk.acts) (event_of got.what c.next_event-got.new.into) got.at c.note_taken.ensures.adds c.next_event-got.ensures.answer c.next_event-got.ensures.later refl in
     subst (λ host. AccountsSince left faults holds start host → Accounts start new (wire_acts 0 disk.acts)) c.self.view_is step

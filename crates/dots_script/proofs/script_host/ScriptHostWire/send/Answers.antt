@@ -12,14 +12,14 @@ returns-clause-leads g c = λ start.
     let faults = g.S.Source.faults in
     let holds = g.K.Sink.holds in
     let inside = c.self.inside in
-    let old : Outer = record { script = to_come inside.block (left inside.source); held = holds inside.sink; failures = faults inside.source } in
-    let new : Outer = record { script = to_come inside.block (left inside.source); held = holds c.write_line.new.sink; failures = faults inside.source } in
+    let old : Outer = record { script = to_come inside.block (left inside.source); written = holds inside.sink; failures = faults inside.source } in
+    let new : Outer = record { script = to_come inside.block (left inside.source); written = holds c.write_line.new.sink; failures = faults inside.source } in
     let disk = c.note_given.new.self in
     let out = owned_of c.args.out.now in
     let sent = c.match-write_line.sent in
-    let one : Piece old.held new.held out sent = elim c.match-write_line.branch [
-      | in-Ok w ↦ piece_done old.held new.held out sent w.sent-is w.in-Ok.ensures.ok
-      | in-Err w ↦ piece_lost old.held new.held out sent w.sent-is w.in-Err.ensures.err
+    let one : Piece old.written new.written out sent = elim c.match-write_line.branch [
+      | in-Ok w ↦ piece_done old.written new.written out sent w.sent-is w.in-Ok.ensures.ok
+      | in-Err w ↦ piece_lost old.written new.written out sent w.sent-is w.in-Err.ensures.err
     ] in
     let step = accounts_given start old new (wire_acts 0 inside.disk.acts) (wire_acts 0 disk.acts) (length inside.disk.acts) (length disk.acts) out sent c.note_given.ensures.adds refl refl one in
     subst (λ host. AccountsSince left faults holds start host → Accounts start new (wire_acts 0 disk.acts)) c.self.view_is step

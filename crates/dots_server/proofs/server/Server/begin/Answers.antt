@@ -14,7 +14,7 @@ returns-clause-begun g c =
       begun.entries,
       begun_kept c.args.settings c.args.at c.in_ok-ledger.ledger begun.entries c.requires.early begun.represents begun.time c.in_ok-ledger.ensures.size.0 begun.each c.in_ok-watch.watch c.in_ok-watch.ensures.0 c.in_ok-watch.ensures.1 c.in_ok-lines.lines c.in_ok-lines.ensures,
       begun.represents.calm,
-      λ seen sees. (begun.held seen sees, begun.rests seen sees),
+      λ seen sees. (begun.stored seen sees, begun.rests seen sees),
     )
 
 -- the disk wasn't recovered

@@ -10,7 +10,7 @@ use Rattle.dots_registry.specs.RegistryValues.{time_of}
 use Rattle.dots_registry.specs.RegistryValues as registry
 use Rattle.dots_machine.specs.declared.verdict.Verdict.TheVariants as verdict
 use Rattle.dots_machine.specs.Sessions.{is_held, configured_in}
-use Rattle.dots_machine.specs.Deciding.{session_entry, clear_answer}
+use Rattle.dots_machine.specs.Deciding.{config_entry, clear_answer}
 use Rattle.dots_server.specs.ServerValues.{ServerValue, Represents}
 use Rattle.dots_server.proofs.Verdicts.{if_ok}
 use Rattle.dots_server.proofs.Sessions.{configured_here, clearing_configures}
@@ -31,8 +31,8 @@ returns-then-is_held-clause-decides c = λ settings state represents.
     if_ok c.accept_config.result _ _
     (λ v is.
     is
-    ∙ ap (λ t. verdict.Accept c.deleted.result (session_entry t c.args.peer c.args.domain c.args.exchange.now c.deleted.result change.ClearConfig)) represents.time_is
-    ∙ ap (λ reply. verdict.Accept reply (session_entry state.time c.args.peer c.args.domain c.args.exchange.now reply change.ClearConfig)) c.deleted.ensures
+    ∙ ap (λ t. verdict.Accept c.deleted.result (config_entry t c.args.peer c.args.domain c.args.exchange.now c.deleted.result change.ClearConfig)) represents.time_is
+    ∙ ap (λ reply. verdict.Accept reply (config_entry state.time c.args.peer c.args.domain c.args.exchange.now reply change.ClearConfig)) c.deleted.ensures
     ∙ ap (clear_answer state.time c.args.peer c.args.domain c.args.exchange.now) (sym c.if-is_held.true ∙ c.is_held.ensures ∙ ap (is_held c.args.sid) found))
     c.accept_config.ensures.verdict
 

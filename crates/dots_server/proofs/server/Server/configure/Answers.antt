@@ -12,7 +12,7 @@ use Rattle.session_core.specs.Negotiating.{negotiated}
 use Rattle.dots_machine.specs.declared.verdict.Verdict.TheVariants as verdict
 use Rattle.dots_machine.specs.Replies.{configuring, out_of_range}
 use Rattle.dots_machine.specs.Sessions.{sid_of, is_held, configured_in}
-use Rattle.dots_machine.specs.Deciding.{session_entry, config_answer}
+use Rattle.dots_machine.specs.Deciding.{config_entry, config_answer}
 use Rattle.dots_server.specs.ServerValues.{ServerValue, Represents}
 use Rattle.dots_server.proofs.Verdicts.{if_ok}
 use Rattle.dots_server.proofs.Sessions.{configured_here, sid_found, setting_configures, taken_within}
@@ -39,8 +39,8 @@ returns-in-Ok-clause-decides c = λ settings state represents.
     if_ok c.accept_config.result _ _
     (λ v is.
     is
-    ∙ ap (λ t. verdict.Accept c.configuring-reply.result (session_entry t c.args.peer c.args.domain c.args.exchange.now c.configuring-reply.result (change.SetConfig c.args.sid c.in-Ok.config))) represents.time_is
-    ∙ ap (λ reply. verdict.Accept reply (session_entry state.time c.args.peer c.args.domain c.args.exchange.now reply (change.SetConfig c.args.sid c.in-Ok.config))) made
+    ∙ ap (λ t. verdict.Accept c.configuring-reply.result (config_entry t c.args.peer c.args.domain c.args.exchange.now c.configuring-reply.result (change.SetConfig c.args.sid c.in-Ok.config))) represents.time_is
+    ∙ ap (λ reply. verdict.Accept reply (config_entry state.time c.args.peer c.args.domain c.args.exchange.now reply (change.SetConfig c.args.sid c.in-Ok.config))) made
     ∙ ap (config_answer state.time c.args.peer c.args.domain c.args.exchange.now c.args.sid (is_held c.args.sid configured)) (sym (answered ∙ c.in-Ok.is)))
     c.accept_config.ensures.verdict
 

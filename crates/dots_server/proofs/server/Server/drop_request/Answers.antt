@@ -1,5 +1,5 @@
 use Rattle.std.proofs.Common.{drop, ap, ◌∙◌, subst}
-use Rattle.stream_table.specs.Places.{NowHolds, line_at}
+use Rattle.stream_table.specs.Places.{NowBuffers, line_at}
 use Rattle.dots_server.specs.ServerValues.{ServerValue}
 use Rattle.dots_server.proofs.Connecting.{held_lives}
 use Rattle.dots_server.proofs.server.Server.drop_request.Goals as goal
@@ -15,7 +15,7 @@ invariant_of-self c =
 
 pub returns-clause-held : goal.returns-clause-held
 returns-clause-held c = λ line there.
-    subst (λ (server : ServerValue). NowHolds c.args.place (drop c.args.size) server.lines c.discard.new.self line) c.self.view_is
+    subst (λ (server : ServerValue). NowBuffers c.args.place (drop c.args.size) server.lines c.discard.new.self line) c.self.view_is
     (c.discard.ensures line (ap (λ (server : ServerValue). line_at c.args.place server.lines) c.self.view_is ∙ there))
 
 pub returns-clause-others : goal.returns-clause-others

@@ -15,7 +15,7 @@ use Rattle.stream_table.specs.Lines.{opened, opening, forgotten}
 use Rattle.dots_machine.specs.Machine.{later, with_entry, beating, connected, disconnected, turned_away}
 use Rattle.dots_machine.proofs.Observing.{told_history}
 use Rattle.dots_server.specs.ServerValues.{ServerValue, IsKept}
-use Rattle.dots_server.specs.Observing.{Tells}
+use Rattle.dots_server.specs.Observing.{MayNotify}
 use Rattle.dots_server.specs.Sessions.{beaten}
 use Rattle.dots_server.specs.Turning.{Turned, Broke}
 use Rattle.dots_server.specs.Taking.{stored_of}
@@ -255,7 +255,7 @@ pub returns-in-Piece-clause-observers : goal.returns-in-Piece-clause-observers
 returns-in-Piece-clause-observers g c = λ tells. c.notify-in-Piece.ensures.known
 
 pub returns-in-Opened-clause-observers : goal.returns-in-Opened-clause-observers
-returns-in-Opened-clause-observers g c = λ tells. absurd (subst Tells c.in-Opened.is tells)
+returns-in-Opened-clause-observers g c = λ tells. absurd (subst MayNotify c.in-Opened.is tells)
 
 pub returns-in-Closed-clause-observers : goal.returns-in-Closed-clause-observers
-returns-in-Closed-clause-observers g c = λ tells. absurd (subst Tells c.in-Closed.is tells)
+returns-in-Closed-clause-observers g c = λ tells. absurd (subst MayNotify c.in-Closed.is tells)

@@ -1,7 +1,7 @@
 use Rattle.std.proofs.Common.{take, Option, ap, ◌∙◌, subst}
 use Rattle.std.specs.Prelude.{is_some, option_map}
 use Rattle.stream_table.specs.Lines.{Line}
-use Rattle.stream_table.specs.Places.{NowHolds, line_at, conn_of, with_more}
+use Rattle.stream_table.specs.Places.{NowBuffers, line_at, conn_of, with_more}
 use Rattle.dots_server.specs.ServerValues.{ServerValue}
 use Rattle.dots_server.proofs.Connecting.{held_lives}
 use Rattle.dots_server.proofs.server.Server.hold.Goals as goal
@@ -20,7 +20,7 @@ returns-clause-count c = λ line there. c.take.ensures.count line (ap (λ (serve
 
 pub returns-clause-held : goal.returns-clause-held
 returns-clause-held c = λ line there.
-    subst (λ (server : ServerValue). NowHolds c.args.place (with_more (take c.take.result c.args.piece.now)) server.lines c.take.new.self line) c.self.view_is
+    subst (λ (server : ServerValue). NowBuffers c.args.place (with_more (take c.take.result c.args.piece.now)) server.lines c.take.new.self line) c.self.view_is
     (c.take.ensures.held line (ap (λ (server : ServerValue). line_at c.args.place server.lines) c.self.view_is ∙ there))
 
 pub returns-clause-others : goal.returns-clause-others

@@ -8,7 +8,7 @@ use Rattle.dots_registry.specs.RegistryValues.{time_of, number_remembered}
 use Rattle.dots_ledger.proofs.Answering.{err_of}
 use Rattle.dots_machine.specs.Machine.{with_entry}
 use Rattle.dots_server.specs.ServerValues.{ServerValue, IsKept, IsAcceptable}
-use Rattle.dots_server.specs.Turning.{HoldsTurn, Wrote}
+use Rattle.dots_server.specs.Turning.{HasTurn, Wrote}
 use Rattle.dots_server.proofs.ServerValues.{can_accept, joins_there, own_with, kept_with, lives_with, lives_still}
 use Rattle.dots_server.proofs.Turning.{silent_adds, accepting}
 use Rattle.dots_server.proofs.server.Server.keep_entry.Goals as goal
@@ -40,12 +40,12 @@ returns-in_err-accept-clause-failed g c =
     let here = subst (λ server. IsKept server settings state entries) (sym c.self.view_is) kept in
     let of = here.represents.represents in
     let joins = joins_there old settings state entry of can in
-    let writes : RestsWith (g.H.Disk.media host) (journal.Represents old.journal settings entries) → Leaves (g.H.Disk.media host) (g.H.Disk.media left) (HoldsTurn settings state (with_entry state entry)) = λ rests.
+    let writes : RestsWith (g.H.Disk.media host) (journal.Represents old.journal settings entries) → Leaves (g.H.Disk.media host) (g.H.Disk.media left) (HasTurn settings state (with_entry state entry)) = λ rests.
     accepting settings (number_remembered old.registry) (time_of old.registry) state entry (g.H.Disk.media host) (g.H.Disk.media left) (ap (λ (limits : Limits). limits.remembered) of.is_of.limits) of.time_is
     (can.now ∙ of.time_is) (c.accept.ensures.moments settings state.history entries here.represents.ledger joins rests) in
     record {
       silent = (g.met.H.Host.disk_keeps host left c.accept.ensures.beside).0;
-      writes = subst (λ (server : ServerValue). RestsWith (g.H.Disk.media host) (journal.Represents server.journal settings entries) → Leaves (g.H.Disk.media host) (g.H.Disk.media left) (HoldsTurn settings state (with_entry state entry)))
+      writes = subst (λ (server : ServerValue). RestsWith (g.H.Disk.media host) (journal.Represents server.journal settings entries) → Leaves (g.H.Disk.media host) (g.H.Disk.media left) (HasTurn settings state (with_entry state entry)))
           c.self.view_is writes;
       own = own_with settings old state entry of can;
     })
@@ -87,7 +87,7 @@ returns-clause-done g c = λ settings state entries kept.
     let of = here.represents.represents in
     let joins = joins_there old settings state entry of can in
     let made = c.in_ok-accept.ensures.accepted settings state.history entries here.represents.ledger joins in
-    let writes : RestsWith (g.H.Disk.media host) (journal.Represents old.journal settings entries) → Leaves (g.H.Disk.media host) (g.H.Disk.media left) (HoldsTurn settings state (with_entry state entry)) = λ rests.
+    let writes : RestsWith (g.H.Disk.media host) (journal.Represents old.journal settings entries) → Leaves (g.H.Disk.media host) (g.H.Disk.media left) (HasTurn settings state (with_entry state entry)) = λ rests.
     accepting settings (number_remembered old.registry) (time_of old.registry) state entry (g.H.Disk.media host) (g.H.Disk.media left) (ap (λ (limits : Limits). limits.remembered) of.is_of.limits) of.time_is
     (can.now ∙ of.time_is) (c.accept.ensures.moments settings state.history entries here.represents.ledger joins rests) in (
       made.0,

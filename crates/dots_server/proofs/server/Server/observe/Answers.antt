@@ -15,12 +15,12 @@ invariant_of-self c =
     ∙ ap (λ tables. record old.watch { observers = record old.watch.observers { observed = registered (views_of tables) old.watch.observers.room c.in-Registers.observer old.watch.observers.observed } }) c.registry.ensures))
     (observed_lives old c.args.peer (watching.Registers c.in-Registers.observer) c.self.invariant)
 
-pub invariant_of-self-in-Leaves : goal.invariant_of-self-in-Leaves
-invariant_of-self-in-Leaves c =
+pub invariant_of-self-in-Cancels : goal.invariant_of-self-in-Cancels
+invariant_of-self-in-Cancels c =
     let old : ServerValue = record { settings = c.self.inside.settings; registry = c.self.inside.ledger.registry; journal = c.self.inside.ledger.journal; watch = c.self.inside.watch; lines = c.self.inside.lines } in
     subst (λ (watch : Watch). IsServing (record old { watch = watch }))
-    (sym (c.leave.ensures ∙ ap (λ token. (with_changed old c.args.peer (watching.Leaves token)).watch) c.bytes.ensures.value))
-    (observed_lives old c.args.peer (watching.Leaves c.in-Leaves.token) c.self.invariant)
+    (sym (c.cancel.ensures ∙ ap (λ token. (with_changed old c.args.peer (watching.Cancels token)).watch) c.bytes.ensures.value))
+    (observed_lives old c.args.peer (watching.Cancels c.in-Cancels.token) c.self.invariant)
 
 pub invariant_of-self-in-Rejects : goal.invariant_of-self-in-Rejects
 invariant_of-self-in-Rejects c =

@@ -20,14 +20,14 @@ use Rattle.dots_server.proofs.server.Server.take_datagram.Goals as goal
 
 pub carry_out-requires-clause-ready : goal.carry_out-requires-clause-ready
 carry_out-requires-clause-ready g c =
-    subst (CanCarryOut c.decide-decided.result.outcome.verdict) (sym c.hear.ensures)
-    (carried_still c.args.self.now _ c.decide-decided.result.outcome.verdict c.decide-decided.ensures.ready)
+    subst (CanCarryOut c.decide-decided.result.decision.verdict) (sym c.hear.ensures)
+    (carried_still c.args.self.now _ c.decide-decided.result.decision.verdict c.decide-decided.ensures.ready)
 
 pub returns-in-Err-clause-failed : goal.returns-in-Err-clause-failed
 returns-in-Err-clause-failed g c = λ settings state entries kept.
     let peer = c.args.peer in
     let heard = c.decide-decided.result.heard in
-    let said = c.decide-decided.result.outcome.verdict in
+    let said = c.decide-decided.result.decision.verdict in
     let here = met heard peer state in
     let host = c.args.host.now in
     let left = c.carry_out.new.host in
@@ -58,8 +58,8 @@ pub returns-clause-done : goal.returns-clause-done
 returns-clause-done g c = λ settings state entries kept.
     let peer = c.args.peer in
     let heard = c.decide-decided.result.heard in
-    let said = c.decide-decided.result.outcome.verdict in
-    let watching = c.decide-decided.result.outcome.watching in
+    let said = c.decide-decided.result.decision.verdict in
+    let watching = c.decide-decided.result.decision.watching in
     let here = met heard peer state in
     let host = c.args.host.now in
     let between = c.carry_out.new.host in

@@ -1,7 +1,7 @@
 use Rattle.std.proofs.Common.{◌≤◌, take, arith, refl, sym, subst, length-take}
 use Rattle.dots_host.proofs.RunLemmas.{added_none}
 use Rattle.slot_store.specs.Layout.{needed_of}
-use Rattle.stream_table.specs.Places.{held_by, with_more}
+use Rattle.stream_table.specs.Places.{buffered_by, with_more}
 use Rattle.dots_machine.specs.Machine.{receiving}
 use Rattle.dots_ledger.proofs.Answering.{err_of}
 use Rattle.dots_server.specs.ServerValues.{ServerValue}
@@ -97,8 +97,8 @@ returns-clause-done g c = λ settings state entries kept.
     let acts = g.H.Wire.acts c.args.host.now in
     let acts_new = g.H.Wire.acts c.answer_front.new.host in
     let here = held_kept settings conn rest state c.args.self.now entries kept media media_new acts acts_new n c.in-Some.place at c.hold-taken.new.self holds c.hold-taken.ensures.others in
-    let room = c.in_ok-answer_front.ensures.room c.if-branch.false (held_by (with_more (take n rest)) at.line) holds.there in
+    let room = c.in_ok-answer_front.ensures.room c.if-branch.false (buffered_by (with_more (take n rest)) at.line) holds.there in
     piece_rests settings conn rest state c.args.self.now entries kept media media_new acts acts_new n c.in-Some.place at c.hold-taken.new.self holds c.hold-taken.ensures.others
-    c.answer_front.new.self (all_held n rest at.line.held (c.hold-taken.ensures.count at.line at.there) room)
+    c.answer_front.new.self (all_held n rest at.line.buffered (c.hold-taken.ensures.count at.line at.there) room)
     (is_resting _ settings conn (receiving conn (take n rest) state) c.hold-taken.new.self c.answer_front.new.self entries media media_new acts acts_new c.if-branch.false
     (c.in_ok-answer_front.ensures.done settings (receiving conn (take n rest) state) entries here))

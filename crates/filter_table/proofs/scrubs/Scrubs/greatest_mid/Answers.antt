@@ -25,4 +25,4 @@ returns c =
     ∙ ap (λ (ranks : List Rank). best (mid_in c.args.packet.now c.self.inside.rows.items) (map slot_of (filter (covers c.args.packet.now.destination.family c.args.packet.now.destination.number) ranks))) c.self.invariant.0.ranks_are.in_order
     ∙ best_is c.args.packet.now c.self.inside.rows.items (gathered c.self.inside.rows.items c.self.inside.turns.items)
     (are_stored c.self.inside.rows.items c.self.inside.turns.items c.self.invariant.0.tied)
-    ∙ ap (λ (v : ScrubsValue). scrubbing_mid c.args.packet.now (map row_of_scrub v.held)) c.self.view_is
+    ∙ ap (λ (v : ScrubsValue). scrubbing_mid c.args.packet.now (map row_of_scrub v.placed)) c.self.view_is

@@ -7,4 +7,4 @@ pub returns : goal.returns
 returns c =
     let same : c.len.result ≡ length c.self.inside.turns.items = omega (arith, c.len.ensures) in
     ap (λ (n : ℕ). nat_lt n c.self.inside.room) (same ∙ sym (length-gathered c.self.inside.rows.items c.self.inside.turns.items c.self.invariant.0.tied))
-    ∙ ap (λ (v : ScrubsValue). nat_lt (length v.held) v.room) c.self.view_is
+    ∙ ap (λ (v : ScrubsValue). nat_lt (length v.placed) v.room) c.self.view_is

@@ -12,17 +12,17 @@ use Rattle.filter_table.proofs.scrubs.Scrubs.install.Goals as goal
 
 pub put-requires : goal.put-requires
 put-requires c =
-    let fits : length (gathered c.self.inside.rows.items c.self.inside.turns.items) < c.self.inside.room = subst (λ (v : ScrubsValue). length v.held < v.room) (sym c.self.view_is) c.requires in
+    let fits : length (gathered c.self.inside.rows.items c.self.inside.turns.items) < c.self.inside.room = subst (λ (v : ScrubsValue). length v.placed < v.room) (sym c.self.view_is) c.requires in
     omega (arith, fits, length-ranks rank_of c.self.inside.ranking c.self.inside.room (gathered c.self.inside.rows.items c.self.inside.turns.items) c.self.invariant.0.ranks_are, c.self.invariant.0.ranks_are.room_is)
 
 pub put-requires-2 : goal.put-requires-2
 put-requires-2 c =
-    let fits : length (gathered c.self.inside.rows.items c.self.inside.turns.items) < c.self.inside.room = subst (λ (v : ScrubsValue). length v.held < v.room) (sym c.self.view_is) c.requires in
+    let fits : length (gathered c.self.inside.rows.items c.self.inside.turns.items) < c.self.inside.room = subst (λ (v : ScrubsValue). length v.placed < v.room) (sym c.self.view_is) c.requires in
     omega (arith, fits, length-ranks mark_of c.self.inside.marks c.self.inside.room (gathered c.self.inside.rows.items c.self.inside.turns.items) c.self.invariant.0.marks_are, c.self.invariant.0.marks_are.room_is)
 
 pub put_turn-requires-clause-room : goal.put_turn-requires-clause-room
 put_turn-requires-clause-room c =
-    let fits : length (gathered c.self.inside.rows.items c.self.inside.turns.items) < c.self.inside.room = subst (λ (v : ScrubsValue). length v.held < v.room) (sym c.self.view_is) c.requires in
+    let fits : length (gathered c.self.inside.rows.items c.self.inside.turns.items) < c.self.inside.room = subst (λ (v : ScrubsValue). length v.placed < v.room) (sym c.self.view_is) c.requires in
     omega (arith, fits, length-gathered c.self.inside.rows.items c.self.inside.turns.items c.self.invariant.0.tied, c.self.invariant.1)
 
 pub put_turn-requires-clause-within : goal.put_turn-requires-clause-within
@@ -53,7 +53,7 @@ returns c =
     c.self.invariant.0 c.in-Some.ensures.items c.of.ensures.valid here now marked c.fill_slot.ensures c.put_turn.ensures.items in (
       c.in-Some.slot,
       subst (λ (v : ScrubsValue). c.in-Some.slot < v.room) c.self.view_is kept.slot_below,
-      subst (λ (v : ScrubsValue). scrub_in c.in-Some.slot v.held ≡ None) c.self.view_is kept.slot_free,
-      ap (scrubs_value c.self.inside.room) kept.held_is
-          ∙ ap (λ (v : ScrubsValue). scrubs_value v.room (with_scrub (record { slot = c.in-Some.slot; place = c.args.place; row = c.args.row }) v.held)) c.self.view_is,
+      subst (λ (v : ScrubsValue). scrub_in c.in-Some.slot v.placed ≡ None) c.self.view_is kept.slot_free,
+      ap (scrubs_value c.self.inside.room) kept.placed_is
+          ∙ ap (λ (v : ScrubsValue). scrubs_value v.room (with_scrub (record { slot = c.in-Some.slot; place = c.args.place; row = c.args.row }) v.placed)) c.self.view_is,
     )

@@ -18,7 +18,7 @@ returns-in_err-mark-clause-none c =
     let none : find (λ (r : Rank). slot_is_of c.args.domain c.args.cuid.now c.args.mid c.self.inside.rows.items r.slot) c.marks_of-marks.result.now ≡ None =
     ap (λ (rs : List (Option ScrubRow)). find (λ (r : Rank). slot_is_of c.args.domain c.args.cuid.now c.args.mid rs r.slot) c.marks_of-marks.result.now) (sym c.as_slice.ensures.value) ∙ sym c.in_err-mark.ensures in
     rw c.from_residual.ensures
-    (subst (λ (v : ScrubsValue). v.held ≡ without_mitigation c.args.domain c.args.cuid.now c.args.mid v.held) c.self.view_is
+    (subst (λ (v : ScrubsValue). v.placed ≡ without_mitigation c.args.domain c.args.cuid.now c.args.mid v.placed) c.self.view_is
     (none_found c.args.domain c.args.cuid.now c.args.mid c.self.inside.rows.items c.marks_of-marks.result.now (gathered c.self.inside.rows.items c.self.inside.turns.items)
     (are_stored c.self.inside.rows.items c.self.inside.turns.items c.self.invariant.0.tied) marked none))
 
@@ -30,7 +30,7 @@ returns-clause-some c =
     let some : find (λ (r : Rank). slot_is_of c.args.domain c.args.cuid.now c.args.mid c.self.inside.rows.items r.slot) c.marks_of-marks.result.now ≡ Some c.in_ok-mark.mark =
     ap (λ (rs : List (Option ScrubRow)). find (λ (r : Rank). slot_is_of c.args.domain c.args.cuid.now c.args.mid rs r.slot) c.marks_of-marks.result.now) (sym c.as_slice.ensures.value) ∙ sym c.in_ok-mark.ensures in
     let here = c.turn_at.ensures ∙ ap (position (is_turn c.in_ok-mark.mark.place c.in_ok-mark.mark.slot)) c.as_slice-2.ensures.value in
-    subst (λ (v : ScrubsValue). IfSome c.turn_at.result (GoesAt c.args.domain c.args.cuid.now c.args.mid v.held)) c.self.view_is
+    subst (λ (v : ScrubsValue). IfSome c.turn_at.result (GoesAt c.args.domain c.args.cuid.now c.args.mid v.placed)) c.self.view_is
     (found_at c.args.domain c.args.cuid.now c.args.mid c.self.inside.rows.items c.self.inside.turns.items c.marks_of-marks.result.now c.in_ok-mark.mark c.turn_at.result c.self.invariant.0.tied some here)
 
 pub returns-clause-none : goal.returns-clause-none

@@ -8,11 +8,11 @@ take_out-requires c = c.in-Some.ensures.some.0
 
 pub returns-in-Some-clause-others : goal.returns-in-Some-clause-others
 returns-in-Some-clause-others c =
-    ap (λ (s : ScrubsValue). without_mitigation c.args.domain c.args.cuid.now c.args.mid s.held) c.take_out.ensures ∙ c.in-Some.ensures.some.1
+    ap (λ (s : ScrubsValue). without_mitigation c.args.domain c.args.cuid.now c.args.mid s.placed) c.take_out.ensures ∙ c.in-Some.ensures.some.1
 
 pub returns-in-Some-clause-fewer : goal.returns-in-Some-clause-fewer
 returns-in-Some-clause-fewer c = λ _.
-    omega (arith, ap (λ (s : ScrubsValue). length s.held) c.take_out.ensures, length-remove c.args.self.now.held c.in-Some.at c.in-Some.ensures.some.0)
+    omega (arith, ap (λ (s : ScrubsValue). length s.placed) c.take_out.ensures, length-remove c.args.self.now.placed c.in-Some.at c.in-Some.ensures.some.0)
 
 pub returns-in-None-clause-done : goal.returns-in-None-clause-done
 returns-in-None-clause-done c = λ _. c.in-None.ensures.none

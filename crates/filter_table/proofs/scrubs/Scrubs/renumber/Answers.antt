@@ -50,5 +50,5 @@ returns c =
     ∙ ap (λ (ts : List Turn). ranking_value c.self.inside.marks.room (ranked (map mark_of (gathered c.self.inside.rows.items ts)))) c.as_slice.ensures.value in
     let kept = renumbers_rows c.self.inside.room c.self.inside.rows.items c.self.inside.turns.items c.renumber_turns.new.turns.items c.self.inside.free.items c.self.inside.ranking c.rank_all.new.ranking c.self.inside.marks c.rank_all.new.marks
     c.self.invariant.0 c.renumber_turns.ensures.items now marked in
-    ap (scrubs_value c.self.inside.room) kept.held_is
-    ∙ ap (λ (v : ScrubsValue). scrubs_value v.room (renumbered place_of_scrub scrub_at_place v.held)) c.self.view_is
+    ap (scrubs_value c.self.inside.room) kept.placed_is
+    ∙ ap (λ (v : ScrubsValue). scrubs_value v.room (renumbered place_of_scrub scrub_at_place v.placed)) c.self.view_is

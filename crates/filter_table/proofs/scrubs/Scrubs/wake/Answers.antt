@@ -14,5 +14,5 @@ pub returns : goal.returns
 returns c =
     let kept = wakes_rows c.args.domain c.args.cuid.now c.args.mid c.args.active c.self.inside.room c.self.inside.rows.items c.wake_marked.new.rows.items c.self.inside.turns.items
     c.self.inside.free.items c.self.inside.ranking c.self.inside.marks c.marks_of-marks.result.now c.self.invariant.0 c.marks_of-marks.ensures c.wake_marked.ensures in
-    ap (scrubs_value c.self.inside.room) kept.held_is
-    ∙ ap (λ (v : ScrubsValue). scrubs_value v.room (map (woken c.args.domain c.args.cuid.now c.args.mid c.args.active) v.held)) c.self.view_is
+    ap (scrubs_value c.self.inside.room) kept.placed_is
+    ∙ ap (λ (v : ScrubsValue). scrubs_value v.room (map (woken c.args.domain c.args.cuid.now c.args.mid c.args.active) v.placed)) c.self.view_is

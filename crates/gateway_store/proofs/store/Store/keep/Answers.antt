@@ -6,7 +6,7 @@ use Rattle.slot_store.proofs.Steps.{leaves_then}
 use Rattle.slot_journal.proofs.Crashing.{on_ok_as}
 use Rattle.gateway_store.specs.Exchanges.{joins, last_number, most_young, young_at}
 use Rattle.gateway_store.specs.Stores.{StoreValue, once_free}
-use Rattle.gateway_store.specs.Crashes.{HoldsOne, HoldsStep}
+use Rattle.gateway_store.specs.Crashes.{HasOne, HasStep}
 use Rattle.gateway_store.proofs.Keeping.{joins_left, of_request, young_more, leaves_first, leaves_second, leaves_young, leaves_young_first, on_err_as}
 use Rattle.gateway_store.proofs.Orders.{number_more}
 use Rattle.gateway_store.proofs.store.Store.keep.Goals as goal
@@ -70,16 +70,16 @@ returns-in-Ok g c =
     record {
       moments = λ settings rests.
           leaves_young start end settings most c.args.now all few x c.make_room.ensures.store c.make_room.ensures.few joined c.requires.can.time
-          (leaves_then start between end (HoldsStep settings all few x)
+          (leaves_then start between end (HasStep settings all few x)
           (leaves_first start between settings all few x (c.make_room.ensures.moments settings rests))
           (leaves_second between end settings all few x
-          (subst (λ (l : List Exchange). Leaves between end (HoldsOne settings l (l ++ x ∷ []))) c.in-Ok.ensures.made
+          (subst (λ (l : List Exchange). Leaves between end (HasOne settings l (l ++ x ∷ []))) c.in-Ok.ensures.made
           (c.append.ensures.moments settings (c.in-Ok.ensures.rests settings rests)))));
       steps = λ settings rests.
-          leaves_then start between end (HoldsStep settings all few x)
+          leaves_then start between end (HasStep settings all few x)
           (leaves_first start between settings all few x (c.make_room.ensures.moments settings rests))
           (leaves_second between end settings all few x
-          (subst (λ (l : List Exchange). Leaves between end (HoldsOne settings l (l ++ x ∷ []))) c.in-Ok.ensures.made
+          (subst (λ (l : List Exchange). Leaves between end (HasOne settings l (l ++ x ∷ []))) c.in-Ok.ensures.made
           (c.append.ensures.moments settings (c.in-Ok.ensures.rests settings rests))));
       rests = on_ok_as c.append.result (λ goes settings rests. goes settings (c.in-Ok.ensures.rests settings rests)) c.append.ensures.rests;
       kept = on_ok_as c.append.result (λ is. is ∙ ap (λ (l : List Exchange). l ++ x ∷ []) c.in-Ok.ensures.made) c.append.ensures.appended;

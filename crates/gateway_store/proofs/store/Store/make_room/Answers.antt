@@ -5,7 +5,7 @@ use Rattle.slot_store.proofs.Steps.{begins}
 use Rattle.slot_journal.proofs.Crashing.{on_ok_as}
 use Rattle.gateway_store.specs.Exchanges.{IsStore, most_young}
 use Rattle.gateway_store.specs.Stores.{StoreValue, once_free}
-use Rattle.gateway_store.specs.Crashes.{AreLeft, HoldsOne}
+use Rattle.gateway_store.specs.Crashes.{AreLeft, HasOne}
 use Rattle.gateway_store.proofs.Keeping.{free_is, full_is, once_left}
 use Rattle.gateway_store.proofs.store.Store.make_room.Goals as goal
 
@@ -22,7 +22,7 @@ returns-then-used-slots g c =
       few = subst (λ (s : StoreValue). AreLeft (most_young s.journal.slots) c.args.now (once_free c.args.now s) s.exchanges) c.self.view_is
           (once_left (most_young c.self.inside.journal.slots) c.args.now (record { journal = c.self.inside.journal; exchanges = c.self.inside.exchanges.items })
           c.self.invariant.order c.self.invariant.used c.self.invariant.slots);
-      moments = λ settings rests. begins (g.D.Disk.media c.args.disk.now) (HoldsOne settings c.args.self.now.exchanges (once_free c.args.now c.args.self.now));
+      moments = λ settings rests. begins (g.D.Disk.media c.args.disk.now) (HasOne settings c.args.self.now.exchanges (once_free c.args.now c.args.self.now));
       made = sym (free_is c.args.now c.args.self.now free);
       free = free;
       rests = λ settings rests. rests;
@@ -49,7 +49,7 @@ returns g c =
           c.self.invariant.order c.self.invariant.used c.self.invariant.slots);
       moments = λ settings rests.
           subst
-          (λ (l : List Exchange). Leaves (g.D.Disk.media c.args.disk.now) (g.D.Disk.media c.compact.new.disk) (HoldsOne settings c.args.self.now.exchanges l))
+          (λ (l : List Exchange). Leaves (g.D.Disk.media c.args.disk.now) (g.D.Disk.media c.compact.new.disk) (HasOne settings c.args.self.now.exchanges l))
           (sym is)
           (c.compact.ensures.moments settings rests);
       made = on_ok_as c.compact.result (λ made. made ∙ sym is) c.compact.ensures.made;

@@ -3,7 +3,7 @@ use Rattle.std.specs.List.{range_with_len}
 use Rattle.std.proofs.lemmas.Result.{err_from_is_err_and}
 use Rattle.slot_store.proofs.DiskReading.{sees_at_rest}
 use Rattle.slot_store.proofs.Steps.{begins}
-use Rattle.slot_journal.specs.DiskEntries.{Holds}
+use Rattle.slot_journal.specs.DiskEntries.{HasEntries}
 use Rattle.dots_gateway.specs.Exchanges.{AreRestorable}
 use Rattle.gateway_store.specs.Exchanges.{IsStore, last_number, most_young, next_number}
 use Rattle.gateway_store.specs.Forms.{entries_of}
@@ -18,7 +18,7 @@ pub returns-in_err-exchanges : goal.returns-in_err-exchanges
 returns-in_err-exchanges g c =
     let p = err_from_is_err_and c.from_residual.result c.from_residual.ensures.1 in
     record {
-      moments = λ seen entries rests holds. begins (g.D.Disk.media c.args.disk.now) (λ image. Holds c.args.settings.now image entries);
+      moments = λ seen entries rests image_has. begins (g.D.Disk.media c.args.disk.now) (λ image. HasEntries c.args.settings.now image entries);
       opened = rw p.1 tt;
       store = rw p.1 tt;
       early = rw p.1 tt;
@@ -26,7 +26,7 @@ returns-in_err-exchanges g c =
       restorable = rw p.1 tt;
       size = rw p.1 tt;
       refused = rw (p.1, p.2) (λ seen sees. tt);
-      complete = rw (p.1, p.2) (λ seen exchanges sees holds store size. tt);
+      complete = rw (p.1, p.2) (λ seen exchanges sees image_has store size. tt);
       unwritten = rw p.1 (λ seen other rests. inl rests);
       extent = refl;
       cause = rw (p.1, p.2) refl;
@@ -47,8 +47,8 @@ returns-in_err-journal g c =
       restorable = rw p.1 tt;
       size = rw p.1 tt;
       refused = rw (p.1, p.2) c.in_err-journal.ensures.refused;
-      complete = rw (p.1, p.2) (λ seen exchanges sees holds store size.
-          fails_alone c.args.settings.now (g.D.Disk.extent c.args.disk.now) seen _ exchanges _ (c.in_err-journal.ensures.refused seen sees) holds store size);
+      complete = rw (p.1, p.2) (λ seen exchanges sees image_has store size.
+          fails_alone c.args.settings.now (g.D.Disk.extent c.args.disk.now) seen _ exchanges _ (c.in_err-journal.ensures.refused seen sees) image_has store size);
       unwritten = rw (p.1, p.2) c.in_err-journal.ensures.unwritten;
       extent = c.in_err-journal.ensures.extent;
       cause = rw (p.1, p.2) c.in_err-journal.ensures.cause;
@@ -67,7 +67,7 @@ returns-in_err-found g c =
       restorable = rw p.1 tt;
       size = rw p.1 tt;
       refused = rw (p.1, p.2) (λ seen sees. tt);
-      complete = rw (p.1, p.2) (λ seen exchanges sees holds store size. tt);
+      complete = rw (p.1, p.2) (λ seen exchanges sees image_has store size. tt);
       unwritten = rw p.1 (λ seen other rests. inr (entries_of c.fill.new.exchanges.items, (c.in_ok-journal.ensures.recovered seen (sees_at_rest _ seen rests)).0));
       extent = c.in_ok-journal.ensures.extent;
       cause = rw (p.1, p.2) c.in_ok-journal.ensures.cause;

@@ -10,6 +10,6 @@ change_clients-requires c =
 
 pub returns : goal.returns
 returns c =
-    fields_with c.self.inside.rooms c.self.inside.domains.items _ c.self.inside.sessions.items _ c.self.inside.signals.items _ c.self.inside.slots _ (record { entry = c.args.entry; slot = c.args.slot })
+    fields_with c.self.inside.rooms c.self.inside.domains.items _ c.self.inside.configurations.items _ c.self.inside.signals.items _ c.self.inside.slots _ (record { entry = c.args.entry; slot = c.args.slot })
     c.change_clients.ensures c.configure.ensures c.note.ensures c.take.ensures
     ∙ ap (tables_with (record { entry = c.args.entry; slot = c.args.slot })) c.self.view_is

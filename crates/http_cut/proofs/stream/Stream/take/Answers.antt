@@ -7,11 +7,11 @@ use Rattle.http_cut.proofs.stream.Stream.take.Goals as goal
 
 pub invariant_of-self : goal.invariant_of-self
 invariant_of-self c =
-    let held = c.self.inside.bytes.items in
+    let buffered = c.self.inside.bytes.items in
     let came = take c.min-count.result c.args.piece.now in
     let place = c.behind-self-inside.result in
-    let known : IsKnown (held ++ came) place c.self.inside.needed = known_still held came c.self.inside.place place c.self.inside.needed c.self.invariant.2 (search rules) in
+    let known : IsKnown (buffered ++ came) place c.self.inside.needed = known_still buffered came c.self.inside.place place c.self.inside.needed c.self.invariant.2 (search rules) in
     let done : is_ok c.extend_from_slice.result ≡ true = search rules in
-    let held_now : IsKnown (if is_ok c.extend_from_slice.result then held ++ came else held) place c.self.inside.needed =
-    subst (λ (b : Bool). IsKnown (if b then held ++ came else held) place c.self.inside.needed) (sym done) known in
-    (search rules, search rules, subst (λ (y : List ℕ). IsKnown y place c.self.inside.needed) (sym c.extend_from_slice.ensures.items) held_now)
+    let buffered_now : IsKnown (if is_ok c.extend_from_slice.result then buffered ++ came else buffered) place c.self.inside.needed =
+    subst (λ (b : Bool). IsKnown (if b then buffered ++ came else buffered) place c.self.inside.needed) (sym done) known in
+    (search rules, search rules, subst (λ (y : List ℕ). IsKnown y place c.self.inside.needed) (sym c.extend_from_slice.ensures.items) buffered_now)

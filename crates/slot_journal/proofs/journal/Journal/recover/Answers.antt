@@ -2,11 +2,11 @@ use Rattle.std.proofs.Common.{refl}
 use Rattle.std.proofs.lemmas.Result.{err_from_is_err_and}
 use Rattle.slot_store.proofs.DiskReading.{sees_at_rest}
 use Rattle.slot_journal.specs.DiskEntries.{records_of}
-use Rattle.slot_journal.proofs.Recovering.{recovered, holds_opening, holds_reading, half_refuses, not_written}
+use Rattle.slot_journal.proofs.Recovering.{recovered, has_opening, has_reading, half_refuses, not_written}
 use Rattle.slot_journal.proofs.journal.Journal.recover.Goals as goal
 
 pub returns-in_err-store-clause-moments : goal.returns-in_err-store-clause-moments
-returns-in_err-store-clause-moments g c = λ seen entries rests holds. holds_opening _ _ c.args.settings.now entries holds.each (c.in_err-store.ensures.moments seen (records_of entries) rests holds.records)
+returns-in_err-store-clause-moments g c = λ seen entries rests image_has. has_opening _ _ c.args.settings.now entries image_has.each (c.in_err-store.ensures.moments seen (records_of entries) rests image_has.records)
 
 pub returns-in_err-store-clause-refused : goal.returns-in_err-store-clause-refused
 returns-in_err-store-clause-refused g c =
@@ -19,9 +19,9 @@ returns-in_err-store-clause-unwritten g c =
     rw (p.1, p.2) c.in_err-store.ensures.unwritten
 
 pub returns-in_err-entries-clause-moments : goal.returns-in_err-entries-clause-moments
-returns-in_err-entries-clause-moments g c = λ seen entries rests holds.
-    holds_reading _ _ _ c.args.settings.now c.in_ok-store.store entries seen c.in_ok-store.ensures.size.0 holds (c.in_ok-store.ensures.known seen (sees_at_rest _ seen rests)) c.in_err-entries.ensures.keeps
-    (c.in_ok-store.ensures.moments seen (records_of entries) rests holds.records)
+returns-in_err-entries-clause-moments g c = λ seen entries rests image_has.
+    has_reading _ _ _ c.args.settings.now c.in_ok-store.store entries seen c.in_ok-store.ensures.size.0 image_has (c.in_ok-store.ensures.known seen (sees_at_rest _ seen rests)) c.in_err-entries.ensures.keeps
+    (c.in_ok-store.ensures.moments seen (records_of entries) rests image_has.records)
 
 pub returns-in_err-entries-clause-refused : goal.returns-in_err-entries-clause-refused
 returns-in_err-entries-clause-refused g c =
@@ -37,14 +37,14 @@ pub returns-in_err-entries-clause-beside : goal.returns-in_err-entries-clause-be
 returns-in_err-entries-clause-beside g c = g.met.D.Disk.beside_then _ _ _ c.in_ok-store.ensures.beside c.in_err-entries.ensures.beside
 
 pub returns-clause-moments : goal.returns-clause-moments
-returns-clause-moments g c = λ seen entries rests holds.
-    holds_reading _ _ _ c.args.settings.now c.in_ok-store.store entries seen c.in_ok-store.ensures.size.0 holds (c.in_ok-store.ensures.known seen (sees_at_rest _ seen rests)) c.in_ok-entries.ensures.keeps
-    (c.in_ok-store.ensures.moments seen (records_of entries) rests holds.records)
+returns-clause-moments g c = λ seen entries rests image_has.
+    has_reading _ _ _ c.args.settings.now c.in_ok-store.store entries seen c.in_ok-store.ensures.size.0 image_has (c.in_ok-store.ensures.known seen (sees_at_rest _ seen rests)) c.in_ok-entries.ensures.keeps
+    (c.in_ok-store.ensures.moments seen (records_of entries) rests image_has.records)
 
 pub returns-clause-recovered : goal.returns-clause-recovered
 returns-clause-recovered g c = λ seen sees.
     let is = recovered _ _ c.args.settings.now c.in_ok-store.store c.in_ok-entries.entries seen c.in_ok-store.ensures.size.0 (c.in_ok-store.ensures.known seen sees) c.in_ok-entries.ensures.keeps c.in_ok-entries.ensures.count c.in_ok-entries.ensures.each c.in_ok-entries.ensures.half in
-    (is.held, is.rests)
+    (is.filled, is.rests)
 
 pub returns-clause-beside : goal.returns-clause-beside
 returns-clause-beside g c = g.met.D.Disk.beside_then _ _ _ c.in_ok-store.ensures.beside c.in_ok-entries.ensures.beside

@@ -1,6 +1,6 @@
 use Rattle.std.proofs.Common.{refl, ◌∙◌, arith}
 use Rattle.std.proofs.lemmas.Result.{err_from_is_err_and}
-use Rattle.slot_store.specs.Layout.{HoldsRecords}
+use Rattle.slot_store.specs.Layout.{HasRecords}
 use Rattle.slot_store.proofs.Steps.{begins}
 use Rattle.slot_store.proofs.DiskReading.{sees_at_rest, rests_unchanged}
 use Rattle.slot_store.proofs.OpenLemmas.{disk_refuses}
@@ -9,7 +9,7 @@ use Rattle.slot_store.proofs.store.SlotStore.open.Goals as goal
 
 pub returns-then-found-needed : goal.returns-then-found-needed
 returns-then-found-needed g c = record {
-  moments = λ seen records rests holds. begins _ (λ image. HoldsRecords c.args.slots c.args.digest.now image records);
+  moments = λ seen records rests image_has. begins _ (λ image. HasRecords c.args.slots c.args.digest.now image records);
   opened = tt;
   size = tt;
   known = tt;
@@ -22,7 +22,7 @@ returns-then-found-needed g c = record {
 
 pub returns-in_default : goal.returns-in_default
 returns-in_default g c = record {
-  moments = λ seen records rests holds. begins _ (λ image. HoldsRecords c.args.slots c.args.digest.now image records);
+  moments = λ seen records rests image_has. begins _ (λ image. HasRecords c.args.slots c.args.digest.now image records);
   opened = tt;
   size = tt;
   known = tt;
@@ -54,8 +54,8 @@ returns-in_err-used g c =
     let same = c.in_ok-selector.ensures.cause in
     let rose = rw c.in_err-used.ensures.fault at c.in_err-used.ensures.cause in
     record {
-      moments = λ seen records rests holds.
-          opened_reads _ _ _ c.args.slots c.args.digest.now seen c.in_ok-selector.selector records (c.in_ok-selector.ensures.moments seen records rests holds) (c.in_ok-selector.ensures.opened seen (sees_at_rest _ seen rests)) holds c.in_err-used.ensures.keeps;
+      moments = λ seen records rests image_has.
+          opened_reads _ _ _ c.args.slots c.args.digest.now seen c.in_ok-selector.selector records (c.in_ok-selector.ensures.moments seen records rests image_has) (c.in_ok-selector.ensures.opened seen (sees_at_rest _ seen rests)) image_has c.in_err-used.ensures.keeps;
       opened = rw p.1 tt;
       size = rw p.1 tt;
       known = rw p.1 tt;
@@ -73,10 +73,10 @@ returns g c =
     let large = c.if-found-needed.false in
     let extent = c.in_ok-used.ensures.extent ∙ c.in_ok-selector.ensures.extent in
     record {
-      moments = λ seen records rests holds.
-          opened_reads _ _ _ c.args.slots c.args.digest.now seen c.in_ok-selector.selector records (c.in_ok-selector.ensures.moments seen records rests holds) (c.in_ok-selector.ensures.opened seen (sees_at_rest _ seen rests)) holds c.in_ok-used.ensures.keeps;
-      opened = λ seen records sees holds.
-          rests_unchanged _ _ _ c.in_ok-used.ensures.keeps (opened_is_there _ c.args.slots c.args.digest.now seen c.in_ok-selector.selector c.in_ok-used.used records (c.in_ok-selector.ensures.opened seen sees) holds c.in_ok-used.ensures.count);
+      moments = λ seen records rests image_has.
+          opened_reads _ _ _ c.args.slots c.args.digest.now seen c.in_ok-selector.selector records (c.in_ok-selector.ensures.moments seen records rests image_has) (c.in_ok-selector.ensures.opened seen (sees_at_rest _ seen rests)) image_has c.in_ok-used.ensures.keeps;
+      opened = λ seen records sees image_has.
+          rests_unchanged _ _ _ c.in_ok-used.ensures.keeps (opened_is_there _ c.args.slots c.args.digest.now seen c.in_ok-selector.selector c.in_ok-used.used records (c.in_ok-selector.ensures.opened seen sees) image_has c.in_ok-used.ensures.count);
       size = (refl, omega (arith, needed, found, large, extent));
       known = λ seen sees.
           rests_unchanged _ _ _ c.in_ok-used.ensures.keeps (opened_known _ c.args.slots c.args.digest.now seen c.in_ok-selector.selector c.in_ok-used.used (c.in_ok-selector.ensures.opened seen sees) c.in_ok-used.ensures.count);

@@ -8,7 +8,7 @@ use dots_lists::{Bytes, NoMemory};
 use std::alloc::Global;
 
 /// The live mitigations of clients, as observers see them, with the bodies that tell of them.
-pub trait Shows: Views {
+pub trait ViewBodies: Views {
     /// The body of the reply to the GET that registered an observer, as it would be now (RFC 9132, section 4.4.2).
     ghost bodies: { Self → Observer → List ℕ };
 

@@ -69,34 +69,34 @@ abbrev pub granted_row : ℕ → Asked → ℤ → ℕ → Granted
 granted_row mid asked lifetime now = record { mid = mid; asked = asked; lifetime = lifetime; at = now }
 
 -- what the answer to a request is, and what it does
-abbrev pub Tells : ClientValue → Request → CoapMessage → ℕ → Heard → ClientValue → Type 0
-Tells client request m now (heard.Granted mid) new =
+abbrev pub Yields : ClientValue → Request → CoapMessage → ℕ → Heard → ClientValue → Type 0
+Yields client request m now (heard.Granted mid) new =
     (mid ≡ request.mid) × (asked : Asked) × (lifetime : ℤ) × (request.scope ≡ Some asked) × GrantsMid request.mid m lifetime
     × (new ≡ record (ended client m.token) { ledger = with_row (granted_row mid asked lifetime now) client.ledger })
-Tells client request m now (heard.Withdrawn mid) new =
+Yields client request m now (heard.Withdrawn mid) new =
     (mid ≡ request.mid) × (request.scope ≡ None) × (m.code ≡ DELETED)
     × (new ≡ record (ended client m.token) { ledger = without_row mid client.ledger })
-Tells client request m now (heard.Refused mid code) new =
+Yields client request m now (heard.Refused mid code) new =
     (mid ≡ request.mid) × (code ≡ m.code)
     × ((asked : Asked) (lifetime : ℤ) → request.scope ≡ Some asked → GrantsMid request.mid m lifetime → ⊥)
     × (request.scope ≡ None → m.code ≢ DELETED)
     × (new ≡ ended client m.token)
-Tells client request m now _ new = ⊥
+Yields client request m now _ new = ⊥
 
 -- An answer to a request. Memory may run out where a mitigation was asked for, and all is then left as it was.
-abbrev pub TellsOrLacks : ClientValue → CoapMessage → ℕ → Heard → ClientValue → Type 0
-TellsOrLacks client m now heard.NoMemory new = (request : Request) × Answers client m request × IsSome request.scope × (new ≡ client)
-TellsOrLacks client m now answer new = (request : Request) × Answers client m request × Tells client request m now answer new
+abbrev pub YieldsOrLacks : ClientValue → CoapMessage → ℕ → Heard → ClientValue → Type 0
+YieldsOrLacks client m now heard.NoMemory new = (request : Request) × Answers client m request × IsSome request.scope × (new ≡ client)
+YieldsOrLacks client m now answer new = (request : Request) × Answers client m request × Yields client request m now answer new
 
 -- ---- a datagram
 
 -- what it says, and what it leaves
-abbrev pub Hears : ClientValue → List ℕ → ℕ → Heard → ClientValue → Type 0
-Hears client bytes now (heard.Beat answer) new =
+abbrev pub Receives : ClientValue → List ℕ → ℕ → Heard → ClientValue → Type 0
+Receives client bytes now (heard.Beat answer) new =
     (m : CoapMessage) × IsMessage m × (bytes ≡ spelling m) × IsBeat m × (answer ≡ beat_answer m) × (new ≡ client)
-Hears client bytes now heard.Nothing new =
+Receives client bytes now heard.Nothing new =
     ((m : CoapMessage) (request : Request) → IsMessage m → bytes ≡ spelling m → IsBeat m ⊎ Answers client m request → ⊥) × (new ≡ client)
-Hears client bytes now heard.NoMemory new =
+Receives client bytes now heard.NoMemory new =
     (m : CoapMessage) × (request : Request) × IsMessage m × (bytes ≡ spelling m) × Answers client m request × IsSome request.scope × (new ≡ client)
-Hears client bytes now answer new =
-    (m : CoapMessage) × (request : Request) × IsMessage m × (bytes ≡ spelling m) × Answers client m request × Tells client request m now answer new
+Receives client bytes now answer new =
+    (m : CoapMessage) × (request : Request) × IsMessage m × (bytes ≡ spelling m) × Answers client m request × Yields client request m now answer new

@@ -2,13 +2,13 @@
 
 ghost use Rattle.std.specs.Prelude.{◌≡◌, IsTrue};
 ghost use Rattle.http_cut.specs.Reply.{is_reply_status};
-ghost use Rattle.rest_judging.specs.Outcomes.{status_of, is_accepted, status_of_reject};
+ghost use Rattle.rest_judging.specs.Decisions.{status_of, is_accepted, status_of_reject};
 
 use data_channel::RestReject;
 
 /// What is decided on a request. The statuses are those of RFC 9110, section 15.
 #[derive(Clone, Copy)]
-pub enum RestOutcome {
+pub enum RestDecision {
     /// What is asked for may not be asked for: 400.
     BadTarget,
     /// Another peer uses the client's name: 409.
@@ -20,7 +20,7 @@ pub enum RestOutcome {
     /// There is no room for what was to be created: 503.
     Full,
     /// It is shown: 200.
-    Shown,
+    Retrieved,
     /// It is there already as it was asked for: 204. Nothing changes.
     Unchanged,
     /// It is created: 201.
@@ -31,7 +31,7 @@ pub enum RestOutcome {
     Deleted,
 }
 
-impl RestOutcome {
+impl RestDecision {
     /// The status of the reply.
     pub fn status(self) -> u16
         ensures status { result ≡ status_of self }
@@ -39,13 +39,13 @@ impl RestOutcome {
         ensures known { IsTrue (is_reply_status result) }
     {
         match self {
-            RestOutcome::Shown => 200,
-            RestOutcome::Created => 201,
-            RestOutcome::Unchanged | RestOutcome::Replaced | RestOutcome::Deleted => 204,
-            RestOutcome::BadTarget => 400,
-            RestOutcome::Absent => 404,
-            RestOutcome::Taken | RestOutcome::Exists => 409,
-            RestOutcome::Full => 503,
+            RestDecision::Retrieved => 200,
+            RestDecision::Created => 201,
+            RestDecision::Unchanged | RestDecision::Replaced | RestDecision::Deleted => 204,
+            RestDecision::BadTarget => 400,
+            RestDecision::Absent => 404,
+            RestDecision::Taken | RestDecision::Exists => 409,
+            RestDecision::Full => 503,
         }
     }
 
@@ -54,14 +54,14 @@ impl RestOutcome {
         ensures { result ≡ is_accepted self }
     {
         match self {
-            RestOutcome::Created | RestOutcome::Replaced | RestOutcome::Deleted => true,
-            RestOutcome::BadTarget
-            | RestOutcome::Taken
-            | RestOutcome::Absent
-            | RestOutcome::Exists
-            | RestOutcome::Full
-            | RestOutcome::Shown
-            | RestOutcome::Unchanged => false,
+            RestDecision::Created | RestDecision::Replaced | RestDecision::Deleted => true,
+            RestDecision::BadTarget
+            | RestDecision::Taken
+            | RestDecision::Absent
+            | RestDecision::Exists
+            | RestDecision::Full
+            | RestDecision::Retrieved
+            | RestDecision::Unchanged => false,
         }
     }
 }

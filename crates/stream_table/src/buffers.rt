@@ -4,7 +4,7 @@ use dots_lists::NoMemory;
 use std::alloc::Global;
 
 /// What holds the bytes of a connection that came and aren't answered yet.
-pub trait Holds {
+pub trait Buffers {
     /// The bytes that are held.
     ghost bytes: { Self → List ℕ };
 

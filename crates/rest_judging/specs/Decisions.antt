@@ -2,26 +2,26 @@
 use Rattle.std.specs.Prelude.{ℕ, Bool, true, false}
 use Rattle.data_channel.specs.declared.reject.RestReject.{RestReject}
 use Rattle.data_channel.specs.declared.reject.RestReject.TheVariants as reject
-use Rattle.rest_judging.specs.declared.outcome.RestOutcome.{RestOutcome}
-use Rattle.rest_judging.specs.declared.outcome.RestOutcome.TheVariants as outcome
+use Rattle.rest_judging.specs.declared.decision.RestDecision.{RestDecision}
+use Rattle.rest_judging.specs.declared.decision.RestDecision.TheVariants as decision
 
-abbrev pub status_of : RestOutcome → ℕ
-status_of outcome.BadTarget = 400
-status_of outcome.Taken = 409
-status_of outcome.Absent = 404
-status_of outcome.Exists = 409
-status_of outcome.Full = 503
-status_of outcome.Shown = 200
-status_of outcome.Unchanged = 204
-status_of outcome.Created = 201
-status_of outcome.Replaced = 204
-status_of outcome.Deleted = 204
+abbrev pub status_of : RestDecision → ℕ
+status_of decision.BadTarget = 400
+status_of decision.Taken = 409
+status_of decision.Absent = 404
+status_of decision.Exists = 409
+status_of decision.Full = 503
+status_of decision.Retrieved = 200
+status_of decision.Unchanged = 204
+status_of decision.Created = 201
+status_of decision.Replaced = 204
+status_of decision.Deleted = 204
 
 -- something changes, and an entry is made of it
-abbrev pub is_accepted : RestOutcome → Bool
-is_accepted outcome.Created = true
-is_accepted outcome.Replaced = true
-is_accepted outcome.Deleted = true
+abbrev pub is_accepted : RestDecision → Bool
+is_accepted decision.Created = true
+is_accepted decision.Replaced = true
+is_accepted decision.Deleted = true
 is_accepted _ = false
 
 -- the status of what can't be read as a request

@@ -1,7 +1,7 @@
 //! The session configurations of peers.
 
 ghost use Rattle.std.specs.Prelude.{◌≡◌, map, IfOk};
-ghost use Rattle.held_resources.specs.Tables.{no_session, session_with, configured};
+ghost use Rattle.held_resources.specs.Tables.{no_configuration, configuration_with, configured};
 
 use dots_history::{Change, Config, Entry};
 use dots_lists::NoMemory;
@@ -10,52 +10,52 @@ use std::alloc::Global;
 
 /// A peer of the settings, and the session configuration that is held of it, with its sid.
 #[derive(Clone, Copy)]
-pub struct Session {
+pub struct Configuration {
     pub peer: u32,
     pub config: Option<(u32, Config)>,
 }
 
 /// For each peer no configuration.
-pub fn no_sessions(alloc: Global, peers: &[PeerRow]) -> Result<Vec<Session>, NoMemory>
-    ensures { IfOk result (λ sessions. sessions.items ≡ map no_session peers.now) }
+pub fn no_configurations(alloc: Global, peers: &[PeerRow]) -> Result<Vec<Configuration>, NoMemory>
+    ensures { IfOk result (λ configurations. configurations.items ≡ map no_configuration peers.now) }
 {
-    let mut sessions = Vec::new(alloc);
+    let mut configurations = Vec::new(alloc);
     for row in peers {
-        sessions.push(Session {
+        configurations.push(Configuration {
             peer: row.peer,
             config: None,
         })?;
     }
-    Ok(sessions)
+    Ok(configurations)
 }
 
 /// What an entry makes of the sessions.
 #[tactic(auto, using(crate::proofs::Configs::as_before), unfolding(dots_history::specs::Entries::is_configuration))]
-pub fn configure(sessions: &mut Vec<Session>, entry: &Entry)
-    ensures { sessions.new.items ≡ map (session_with entry.now) sessions.old.items }
+pub fn configure(configurations: &mut Vec<Configuration>, entry: &Entry)
+    ensures { configurations.new.items ≡ map (configuration_with entry.now) configurations.old.items }
 {
     match &entry.change {
         Change::SetConfig { .. } | Change::ClearConfig => configure_all(
-            sessions.as_mut_slice(),
+            configurations.as_mut_slice(),
             entry,
         ),
         _ => {}
     }
 }
 
-fn configure_all(sessions: &mut [Session], entry: &Entry)
-    ensures { sessions.new ≡ map (session_with entry.now) sessions.old }
+fn configure_all(configurations: &mut [Configuration], entry: &Entry)
+    ensures { configurations.new ≡ map (configuration_with entry.now) configurations.old }
 {
-    for session in sessions.iter_mut() {
-        configure_one(session, entry);
+    for configuration in configurations.iter_mut() {
+        configure_one(configuration, entry);
     }
 }
 
-fn configure_one(session: &mut Session, entry: &Entry)
-    ensures { session.new ≡ session_with entry.now session.old }
+fn configure_one(configuration: &mut Configuration, entry: &Entry)
+    ensures { configuration.new ≡ configuration_with entry.now configuration.old }
 {
-    if entry.peer == session.peer {
-        session.config = configured(&entry.change, session.config);
+    if entry.peer == configuration.peer {
+        configuration.config = configured(&entry.change, configuration.config);
     }
 }
 

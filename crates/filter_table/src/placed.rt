@@ -6,7 +6,7 @@ use filter_rows::AclRow;
 
 /// The row of an access list as the table holds it.
 #[derive(Drop)]
-pub struct HeldAcl {
+pub struct PlacedAcl {
     /// Where it stands among the list rows: they are in order of place.
     pub place: u64,
     pub row: AclRow,

@@ -10,12 +10,12 @@ use Rattle.coap_tcp.specs.declared.fault.FrameFault.TheVariants.{Token, TooLong,
 use Rattle.coap_tcp.specs.declared.frame.FrameCut as code
 use Rattle.coap_tcp.specs.declared.frame.FrameCut.TheVariants as cuts
 use Rattle.coap_tcp.specs.Frames.{FrameValue, length_nibble, length_extension, frame_bytes, IsRest, IsFrame, BeginsWith}
-use Rattle.coap_tcp.specs.FrameReading.{FrameOutcome, takes, waits, refuses, length_at, is_rest, outcome_behind, with_length, frame_at, frame_value, outcome_of, IfFrame}
+use Rattle.coap_tcp.specs.FrameReading.{FrameCutValue, takes, waits, refuses, length_at, is_rest, cut_value_behind, with_length, frame_at, frame_value, cut_value, IfFrame}
 use Rattle.coap_tcp.proofs.Rests.{rest_found, found_rest}
 use Rattle.coap_tcp.proofs.Lengths.{length_more, short_length, length_short, length_again, nibble_below, extension_below}
 
 -- an outcome that waits, or stays as it is
-abbrev Stays : FrameOutcome → FrameOutcome → Type 0
+abbrev Stays : FrameCutValue → FrameCutValue → Type 0
 Stays before after = (before ≡ waits) ⊎ (after ≡ before)
 
 IsBytes-take : (n : ℕ) (bytes : List ℕ) → IsBytes bytes → IsBytes (take n bytes)
@@ -40,8 +40,8 @@ regroup a code b c d = append_assoc ((a ++ code ∷ []) ++ b) c d ∙ append_ass
 
 -- ---- what was spelled is read again
 
-behind_again : (t n : ℕ) (f : FrameValue) (more : List ℕ) → length f.token ≡ t → length f.rest ≡ n → is_rest f.rest ≡ true → outcome_behind t n (f.code ∷ (f.token ++ (f.rest ++ more))) ≡ takes f
-unfolding outcome_behind
+behind_again : (t n : ℕ) (f : FrameValue) (more : List ℕ) → length f.token ≡ t → length f.rest ≡ n → is_rest f.rest ≡ true → cut_value_behind t n (f.code ∷ (f.token ++ (f.rest ++ more))) ≡ takes f
+unfolding cut_value_behind
 behind_again t n f more token size found =
     let long : ltb (length (f.token ++ (f.rest ++ more))) (t + n) ≡ false = le-ltb (length (f.token ++ (f.rest ++ more))) (t + n) (omega (arith, length-append f.token (f.rest ++ more), length-append f.rest more, token, size)) in
     let first : take t (f.token ++ (f.rest ++ more)) ≡ f.token = take_at f.token (f.rest ++ more) t token in
@@ -88,8 +88,8 @@ record Behind (t n : ℕ) (bytes : List ℕ) (f : FrameValue) : Type 0 where
   more : List ℕ
   parts : bytes ≡ f.code ∷ (f.token ++ (f.rest ++ more))
 
-behind_found : (t n : ℕ) (bytes : List ℕ) (f : FrameValue) → IsBytes bytes → outcome_behind t n bytes ≡ takes f → Behind t n bytes f
-unfolding outcome_behind
+behind_found : (t n : ℕ) (bytes : List ℕ) (f : FrameValue) → IsBytes bytes → cut_value_behind t n bytes ≡ takes f → Behind t n bytes f
+unfolding cut_value_behind
 behind_found t n [] f fits e = absurd cc
 behind_found t n (code ∷ bytes) f fits e =
     let rest = take n (drop t bytes) in
@@ -108,7 +108,7 @@ behind_found t n (code ∷ bytes) f fits e =
 abbrev pub Found : List ℕ → FrameValue → Type 0
 Found bytes f = (behind : List ℕ) × BeginsWith bytes f behind
 
-found_by : (first : ℕ) (bytes : List ℕ) (x : ℕ × List ℕ) (f : FrameValue) → IsBytes (first ∷ bytes) → first % 16 ≤ 8 → length_at (first / 16) bytes ≡ Some x → x.0 ≤ 4096 → outcome_behind (first % 16) x.0 x.1 ≡ takes f → Found (first ∷ bytes) f
+found_by : (first : ℕ) (bytes : List ℕ) (x : ℕ × List ℕ) (f : FrameValue) → IsBytes (first ∷ bytes) → first % 16 ≤ 8 → length_at (first / 16) bytes ≡ Some x → x.0 ≤ 4096 → cut_value_behind (first % 16) x.0 x.1 ≡ takes f → Found (first ∷ bytes) f
 found_by first bytes x f fits token e le taken =
     let n = x.0 in
     let ext = extended_takes (first / 16) bytes x (IsBytes-rest first bytes fits) (short_length (first / 16) bytes x e le) in
@@ -154,8 +154,8 @@ found_size bytes f found = (omega arith, omega (arith, ap (λ (y : List ℕ). le
 
 -- ---- what is decided stays where bytes follow
 
-behind_still : (t n : ℕ) (bytes more : List ℕ) → Stays (outcome_behind t n bytes) (outcome_behind t n (bytes ++ more))
-unfolding outcome_behind
+behind_still : (t n : ℕ) (bytes more : List ℕ) → Stays (cut_value_behind t n bytes) (cut_value_behind t n (bytes ++ more))
+unfolding cut_value_behind
 behind_still t n [] more = inl refl
 behind_still t n (code ∷ bytes) more =
     elim (cases_lt (length bytes) (t + n)) [
@@ -190,8 +190,8 @@ frame_still (first ∷ bytes) more =
 
 -- ---- little is waited with
 
-behind_short : (t n : ℕ) (bytes : List ℕ) → outcome_behind t n bytes ≡ waits → length bytes < 1 + (t + n) ⊎ (length bytes ≡ 0)
-unfolding outcome_behind
+behind_short : (t n : ℕ) (bytes : List ℕ) → cut_value_behind t n bytes ≡ waits → length bytes < 1 + (t + n) ⊎ (length bytes ≡ 0)
+unfolding cut_value_behind
 behind_short t n [] e = inr refl
 behind_short t n (code ∷ bytes) e =
     elim (cases_lt (length bytes) (t + n)) [
@@ -244,14 +244,14 @@ frame_size f is =
 
 -- ---- what the code answers
 
-pub cut_begins : (held : List ℕ) (cut : code.FrameCut) → IsBytes held → outcome_of cut ≡ frame_at held → IfFrame cut (λ frame. frame.length ≡ length (frame_bytes (frame_value frame))) → IfFrame cut (λ frame. BeginsWith held (frame_value frame) (drop frame.length held))
-cut_begins held (cuts.Message frame) fits e size = subst (λ (n : ℕ). BeginsWith held (frame_value frame) (drop n held)) (sym size) (found_behind held (frame_value frame) (frame_found held (frame_value frame) fits (sym e)))
-cut_begins held cuts.More fits e size = tt
-cut_begins held (cuts.Refused fault) fits e size = tt
+pub cut_begins : (buffered : List ℕ) (cut : code.FrameCut) → IsBytes buffered → cut_value cut ≡ frame_at buffered → IfFrame cut (λ frame. frame.length ≡ length (frame_bytes (frame_value frame))) → IfFrame cut (λ frame. BeginsWith buffered (frame_value frame) (drop frame.length buffered))
+cut_begins buffered (cuts.Message frame) fits e size = subst (λ (n : ℕ). BeginsWith buffered (frame_value frame) (drop n buffered)) (sym size) (found_behind buffered (frame_value frame) (frame_found buffered (frame_value frame) fits (sym e)))
+cut_begins buffered cuts.More fits e size = tt
+cut_begins buffered (cuts.Refused fault) fits e size = tt
 
-pub cut_size : (held : List ℕ) (cut : code.FrameCut) → IsBytes held → outcome_of cut ≡ frame_at held → IfFrame cut (λ frame. frame.length ≡ length (frame_bytes (frame_value frame))) → IfFrame cut (λ frame. (0 < frame.length) × (frame.length ≤ length held))
-cut_size held (cuts.Message frame) fits e size =
-    let found = found_size held (frame_value frame) (frame_found held (frame_value frame) fits (sym e)) in
+pub cut_size : (buffered : List ℕ) (cut : code.FrameCut) → IsBytes buffered → cut_value cut ≡ frame_at buffered → IfFrame cut (λ frame. frame.length ≡ length (frame_bytes (frame_value frame))) → IfFrame cut (λ frame. (0 < frame.length) × (frame.length ≤ length buffered))
+cut_size buffered (cuts.Message frame) fits e size =
+    let found = found_size buffered (frame_value frame) (frame_found buffered (frame_value frame) fits (sym e)) in
     (omega (arith, size, found.0), omega (arith, size, found.1))
-cut_size held cuts.More fits e size = tt
-cut_size held (cuts.Refused fault) fits e size = tt
+cut_size buffered cuts.More fits e size = tt
+cut_size buffered (cuts.Refused fault) fits e size = tt
