@@ -11,7 +11,7 @@ use Rattle.dots_settings.specs.Settings.{SettingsValue}
 use Rattle.dots_history.specs.declared.entry.Entry.{Entry}
 use Rattle.dots_history.specs.Histories.{alone}
 use Rattle.stream_table.specs.Lines.{Line, PeerLines, is_number, has_number, peer_in, peer_of, others, row_forgotten, forgotten}
-use Rattle.stream_table.proofs.Holding.{same_peer}
+use Rattle.stream_table.proofs.Buffering.{same_peer}
 use Rattle.rest_answers.specs.declared.caller.Caller.{Caller}
 use Rattle.rest_answers.specs.declared.front.RestFront.TheVariants as fronts
 use Rattle.rest_answers.specs.Turns.{RestFront, caller_by, caller_of, lines_behind, HttpTurn}

@@ -6,10 +6,10 @@ use Rattle.stream_table.specs.declared.place.LinePlace.{LinePlace}
 use Rattle.stream_table.specs.Lines.{Line, PeerLines, AreOf, opened, forgotten, buffering}
 use Rattle.stream_table.specs.Places.{AreApart, NowBuffers}
 use Rattle.stream_table.proofs.Apart.{apart_opened, apart_forgotten}
-use Rattle.stream_table.proofs.Clients.{opened_of, forgotten_of, holding_of}
+use Rattle.stream_table.proofs.Clients.{opened_of, forgotten_of, buffering_of}
 use Rattle.dots_machine.specs.Machine.{State}
 use Rattle.dots_server.specs.ServerValues.{ServerValue, RepresentsWith, IsKept, IsServing}
-use Rattle.dots_server.proofs.Rows.{apart_holding}
+use Rattle.dots_server.proofs.Rows.{apart_buffering}
 
 module _ (becomes : List PeerLines → List PeerLines) (old : ServerValue) where
   abbrev pub with_lines : ServerValue
@@ -68,4 +68,4 @@ pub held_lives : (place : LinePlace) (becomes : List ℕ → List ℕ) (old : Se
     → IsServing (record old { lines = new })
 held_lives place becomes old new line holds serving =
     subst (λ (lines : List PeerLines). IsServing (record old { lines = lines })) (sym holds.all)
-    (lines_live (buffering line.conn becomes) old serving (holding_of old.settings.peers line.conn becomes old.lines serving.rows) (apart_holding line.conn becomes old.lines serving.apart))
+    (lines_live (buffering line.conn becomes) old serving (buffering_of old.settings.peers line.conn becomes old.lines serving.rows) (apart_buffering line.conn becomes old.lines serving.apart))

@@ -28,7 +28,7 @@ use Rattle.dots_machine.specs.Machine.{State, AnswersFront, receiving}
 use Rattle.dots_server.specs.ServerValues.{ServerValue, IsKept}
 use Rattle.dots_server.specs.Turning.{Turned, TurnedTo, Broke}
 use Rattle.dots_server.specs.Pieces.{StandsThere, having, IsAcceptedBy, FrontAnswered, FrontRests, IsFrontTaken, FrontBroke, PieceAnswered, IsPieceTaken}
-use Rattle.dots_server.proofs.Rows.{apart_holding, holding_nowhere, pieces_joined, held_all}
+use Rattle.dots_server.proofs.Rows.{apart_buffering, buffering_nowhere, pieces_joined, held_all}
 use Rattle.dots_server.proofs.Connecting.{lines_kept}
 use Rattle.dots_server.proofs.Turning.{unwritten, told_behind, turned_from}
 use Rattle.dots_server.proofs.Chaining.{broke_as}
@@ -179,7 +179,7 @@ module _ (settings : SettingsValue) (conn : ℕ) (more left : List ℕ) (state :
     x.0,
     with_piece conn left x.1,
     subst (λ (lines : List PeerLines). HttpTurn settings conn state.time state.history lines sends x.0 (with_piece conn left x.1)) (pieces_joined conn more left state.lines)
-        (turn_stays settings conn state.time state.history (with_piece conn more state.lines) left sends x.0 x.1 (apart_holding conn (with_more more) state.lines apart) x.2),
+        (turn_stays settings conn state.time state.history (with_piece conn more state.lines) left sends x.0 x.1 (apart_buffering conn (with_more more) state.lines apart) x.2),
     ap (receiving conn left) x.3,
   )
 
@@ -188,7 +188,7 @@ module _ (settings : SettingsValue) (conn : ℕ) (rest : List ℕ) (state : Stat
   pub rests_nowhere : line_of conn old.lines ≡ None → FrontRests settings conn (receiving conn rest state) old old entries media media acts acts
   rests_nowhere none =
       let gone : line_of conn state.lines ≡ None = ap (line_of conn) (sym kept.represents.represents.lines) ∙ none in
-      let same = holding_nowhere conn (with_more rest) state.lines gone in
+      let same = buffering_nowhere conn (with_more rest) state.lines gone in
       record {
         rests = subst (λ (o : Option Line). MatchOption o ⊤ (λ line. IsCut line.buffered waits)) (sym (ap (line_of conn) same ∙ gone)) tt;
         kept = subst (λ (lines : List PeerLines). IsKept old settings (record state { lines = lines }) entries) (sym same) kept;

@@ -8,7 +8,7 @@ use Rattle.stream_table.specs.declared.place.LinePlace.{LinePlace}
 use Rattle.stream_table.specs.Lines.{Line, PeerLines, is_number, all_lines, line_of, forgotten, line_buffering, buffering}
 use Rattle.stream_table.specs.Places.{AreApart, IsAt, NowBuffers, buffered_by, with_more}
 use Rattle.stream_table.proofs.Apart.{none_of}
-use Rattle.stream_table.proofs.Holding.{line_holds}
+use Rattle.stream_table.proofs.Buffering.{line_buffers}
 use Rattle.rest_answers.specs.Turns.{with_piece}
 use Rattle.dots_server.specs.Pieces.{bytes_in, bytes_on}
 
@@ -42,17 +42,17 @@ times_kept conn other becomes (line ∷ lines) =
     let rest = times_kept conn other becomes lines in
     omega (arith, a, b, n, rest)
 
-times_holding : (conn other : ℕ) (becomes : List ℕ → List ℕ) (rows : List PeerLines) → times other (all_lines (buffering conn becomes rows)) ≡ times other (all_lines rows)
-times_holding conn other becomes [] = refl
-times_holding conn other becomes (row ∷ rows) =
+times_buffering : (conn other : ℕ) (becomes : List ℕ → List ℕ) (rows : List PeerLines) → times other (all_lines (buffering conn becomes rows)) ≡ times other (all_lines rows)
+times_buffering conn other becomes [] = refl
+times_buffering conn other becomes (row ∷ rows) =
     let a = times_append other (map (line_buffering conn becomes) row.lines) (all_lines (buffering conn becomes rows)) in
     let b = times_append other row.lines (all_lines rows) in
     let here = times_kept conn other becomes row.lines in
-    let rest = times_holding conn other becomes rows in
+    let rest = times_buffering conn other becomes rows in
     omega (arith, a, b, here, rest)
 
-pub apart_holding : (conn : ℕ) (becomes : List ℕ → List ℕ) (rows : List PeerLines) → AreApart rows → AreApart (buffering conn becomes rows)
-apart_holding conn becomes rows apart other = let a = apart other in let n = times_holding conn other becomes rows in omega (arith, a, n)
+pub apart_buffering : (conn : ℕ) (becomes : List ℕ → List ℕ) (rows : List PeerLines) → AreApart rows → AreApart (buffering conn becomes rows)
+apart_buffering conn becomes rows apart other = let a = apart other in let n = times_buffering conn other becomes rows in omega (arith, a, n)
 
 -- ---- a number that stands nowhere
 
@@ -79,12 +79,12 @@ none_both conn (line ∷ front) back none = by_test (is_number conn line) none (
     by_test false none rest = rest none
 
 -- what would be held of it isn't
-pub holding_nowhere : (conn : ℕ) (becomes : List ℕ → List ℕ) (rows : List PeerLines) → line_of conn rows ≡ None → buffering conn becomes rows ≡ rows
-holding_nowhere conn becomes [] none = refl
-holding_nowhere conn becomes (row ∷ rows) none =
+pub buffering_nowhere : (conn : ℕ) (becomes : List ℕ → List ℕ) (rows : List PeerLines) → line_of conn rows ≡ None → buffering conn becomes rows ≡ rows
+buffering_nowhere conn becomes [] none = refl
+buffering_nowhere conn becomes (row ∷ rows) none =
     let parts = none_both conn row.lines (all_lines rows) none in
     ap (λ (ls : List Line). of_lines row.peer ls ∷ buffering conn becomes rows) (nowhere_in conn becomes row.lines parts.0)
-    ∙ ap (λ (rs : List PeerLines). row ∷ rs) (holding_nowhere conn becomes rows parts.1)
+    ∙ ap (λ (rs : List PeerLines). row ∷ rs) (buffering_nowhere conn becomes rows parts.1)
 
 none_times : (conn : ℕ) (lines : List Line) → times conn lines ≡ 0 → find (is_number conn) lines ≡ None
 none_times conn [] none = refl
@@ -159,7 +159,7 @@ bytes_gone conn place rows at =
 pub bytes_fewer : (conn : ℕ) (place : LinePlace) (size : ℕ) (rows : List PeerLines) → (at : IsAt conn place rows) → 0 < size → size ≤ length at.line.buffered
     → bytes_on conn (buffering conn (drop size) rows) < bytes_on conn rows
 bytes_fewer conn place size rows at some within =
-    let now = ap bytes_in (line_holds conn (drop size) rows at.line at.found) in
+    let now = ap bytes_in (line_buffers conn (drop size) rows at.line at.found) in
     let was = bytes_at conn place rows at in
     let less = length-drop size at.line.buffered in
     omega (arith, now, was, less, some, within)

@@ -12,7 +12,7 @@ use Rattle.dots_history.specs.declared.entry.Entry.{Entry}
 use Rattle.stream_table.specs.Lines.{Line, PeerLines, AreOf, line_of}
 use Rattle.stream_table.specs.Places.{AreApart, buffered_by, with_more}
 use Rattle.stream_table.proofs.Clients.{connection_is_of_client}
-use Rattle.stream_table.proofs.Holding.{line_holds, same_peer, forgotten_holding, holding_forgotten, swapped}
+use Rattle.stream_table.proofs.Buffering.{line_buffers, same_peer, forgotten_buffering, buffering_forgotten, swapped}
 use Rattle.httparse.proofs.GrammarLemmas.{request_unique}
 use Rattle.http_cut.specs.declared.fault.HttpFault.{HttpFault}
 use Rattle.http_cut.specs.declared.fault.HttpFault.TheVariants.{BadHead}
@@ -302,8 +302,8 @@ module _ (settings : SettingsValue) (conn t : ℕ) (history : List Entry) (lines
   behind_with : (more : List ℕ) (line : Line) (at : RestFront) → AreApart lines → line_of conn lines ≡ Some line → HasSize line.buffered at
       → with_piece conn more (lines_behind conn at lines) ≡ lines_behind conn at (with_piece conn more lines)
   behind_with more line fronts.Waits apart there has = refl
-  behind_with more line (fronts.Refused fault) apart there has = holding_forgotten conn (with_more more) lines ∙ sym (forgotten_holding conn (with_more more) lines)
-  behind_with more line (fronts.Answered size true answered) apart there has = holding_forgotten conn (with_more more) lines ∙ sym (forgotten_holding conn (with_more more) lines)
+  behind_with more line (fronts.Refused fault) apart there has = buffering_forgotten conn (with_more more) lines ∙ sym (forgotten_buffering conn (with_more more) lines)
+  behind_with more line (fronts.Answered size true answered) apart there has = buffering_forgotten conn (with_more more) lines ∙ sym (forgotten_buffering conn (with_more more) lines)
   behind_with more line (fronts.Answered size false answered) apart there has = sym (swapped conn size more lines line apart there has.1)
 
   pub turn_stays : (more : List ℕ) (sends : List OwnedOut) (after : List Entry) (behind : List PeerLines) → AreApart lines → HttpTurn settings conn t history lines sends after behind
@@ -312,7 +312,7 @@ module _ (settings : SettingsValue) (conn t : ℕ) (history : List Entry) (lines
     caller = x.caller;
     asks = ap (option_and_then (caller_by settings)) (same_peer conn (with_more more) lines) ∙ x.asks;
     line = buffered_by (with_more more) x.line;
-    there = line_holds conn (with_more more) lines x.line x.there;
+    there = line_buffers conn (with_more more) lines x.line x.there;
     front = x.front;
     stands = front_stays settings t history x.caller x.line.buffered more x.front x.stands x.due;
     due = x.due;

@@ -26,10 +26,10 @@ any_number conn becomes (line ∷ lines) =
 
 -- ---- it is found
 
-found_holding : (conn : ℕ) (becomes : List ℕ → List ℕ) (lines : List Line)
+found_buffering : (conn : ℕ) (becomes : List ℕ → List ℕ) (lines : List Line)
     → find (is_number conn) (map (line_buffering conn becomes) lines) ≡ option_map (buffered_by becomes) (find (is_number conn) lines)
-found_holding conn becomes [] = refl
-found_holding conn becomes (line ∷ lines) = by_test (is_number conn line) refl (found_holding conn becomes lines)
+found_buffering conn becomes [] = refl
+found_buffering conn becomes (line ∷ lines) = by_test (is_number conn line) refl (found_buffering conn becomes lines)
   where
     by_test : (b : Bool) → is_number conn line ≡ b → find (is_number conn) (map (line_buffering conn becomes) lines) ≡ option_map (buffered_by becomes) (find (is_number conn) lines)
         → find (is_number conn) (cond b (buffered_by becomes line) line ∷ map (line_buffering conn becomes) lines) ≡ option_map (buffered_by becomes) (cond b (Some line) (find (is_number conn) lines))
@@ -40,15 +40,15 @@ map_two : {A B : Type 0} (f : A → B) (xs ys : List A) → map f (xs ++ ys) ≡
 map_two f [] ys = refl
 map_two f (x ∷ xs) ys = ap (λ zs. f x ∷ zs) (map_two f xs ys)
 
-all_holding : (conn : ℕ) (becomes : List ℕ → List ℕ) (rows : List PeerLines) → all_lines (buffering conn becomes rows) ≡ map (line_buffering conn becomes) (all_lines rows)
-all_holding conn becomes [] = refl
-all_holding conn becomes (row ∷ rows) =
-    ap (λ (ls : List Line). map (line_buffering conn becomes) row.lines ++ ls) (all_holding conn becomes rows)
+all_buffering : (conn : ℕ) (becomes : List ℕ → List ℕ) (rows : List PeerLines) → all_lines (buffering conn becomes rows) ≡ map (line_buffering conn becomes) (all_lines rows)
+all_buffering conn becomes [] = refl
+all_buffering conn becomes (row ∷ rows) =
+    ap (λ (ls : List Line). map (line_buffering conn becomes) row.lines ++ ls) (all_buffering conn becomes rows)
     ∙ sym (map_two (line_buffering conn becomes) row.lines (all_lines rows))
 
 pub line_buffers : (conn : ℕ) (becomes : List ℕ → List ℕ) (rows : List PeerLines) (line : Line) → line_of conn rows ≡ Some line → line_of conn (buffering conn becomes rows) ≡ Some (buffered_by becomes line)
 line_buffers conn becomes rows line there =
-    ap (find (is_number conn)) (all_holding conn becomes rows) ∙ found_holding conn becomes (all_lines rows) ∙ ap (option_map (buffered_by becomes)) there
+    ap (find (is_number conn)) (all_buffering conn becomes rows) ∙ found_buffering conn becomes (all_lines rows) ∙ ap (option_map (buffered_by becomes)) there
 
 pub same_peer : (conn : ℕ) (becomes : List ℕ → List ℕ) (rows : List PeerLines) → peer_of conn (buffering conn becomes rows) ≡ peer_of conn rows
 same_peer conn becomes [] = refl
@@ -64,9 +64,9 @@ same_peer conn becomes (row ∷ rows) =
 
 -- ---- it is forgotten with all that it holds
 
-others_holding : (conn : ℕ) (becomes : List ℕ → List ℕ) (lines : List Line) → others conn (map (line_buffering conn becomes) lines) ≡ others conn lines
-others_holding conn becomes [] = refl
-others_holding conn becomes (line ∷ lines) = by_test (is_number conn line) refl (others_holding conn becomes lines)
+others_buffering : (conn : ℕ) (becomes : List ℕ → List ℕ) (lines : List Line) → others conn (map (line_buffering conn becomes) lines) ≡ others conn lines
+others_buffering conn becomes [] = refl
+others_buffering conn becomes (line ∷ lines) = by_test (is_number conn line) refl (others_buffering conn becomes lines)
   where
     by_test : (b : Bool) → is_number conn line ≡ b → others conn (map (line_buffering conn becomes) lines) ≡ others conn lines
         → others conn (cond b (buffered_by becomes line) line ∷ map (line_buffering conn becomes) lines) ≡ cond (not b) (line ∷ others conn lines) (others conn lines)
@@ -75,9 +75,9 @@ others_holding conn becomes (line ∷ lines) = by_test (is_number conn line) ref
         cond-true (not (is_number conn line)) (line ∷ others conn (map (line_buffering conn becomes) lines)) (others conn (map (line_buffering conn becomes) lines)) (ap not is)
         ∙ ap (λ (ls : List Line). line ∷ ls) rest
 
-holding_others : (conn : ℕ) (becomes : List ℕ → List ℕ) (lines : List Line) → map (line_buffering conn becomes) (others conn lines) ≡ others conn lines
-holding_others conn becomes [] = refl
-holding_others conn becomes (line ∷ lines) = by_test (is_number conn line) refl (holding_others conn becomes lines)
+buffering_others : (conn : ℕ) (becomes : List ℕ → List ℕ) (lines : List Line) → map (line_buffering conn becomes) (others conn lines) ≡ others conn lines
+buffering_others conn becomes [] = refl
+buffering_others conn becomes (line ∷ lines) = by_test (is_number conn line) refl (buffering_others conn becomes lines)
   where
     by_test : (b : Bool) → is_number conn line ≡ b → map (line_buffering conn becomes) (others conn lines) ≡ others conn lines
         → map (line_buffering conn becomes) (cond (not b) (line ∷ others conn lines) (others conn lines)) ≡ cond (not b) (line ∷ others conn lines) (others conn lines)
@@ -89,17 +89,17 @@ holding_others conn becomes (line ∷ lines) = by_test (is_number conn line) ref
 abbrev of_lines : ℕ → List Line → PeerLines
 of_lines peer lines = record { peer = peer; lines = lines }
 
-pub forgotten_holding : (conn : ℕ) (becomes : List ℕ → List ℕ) (rows : List PeerLines) → forgotten conn (buffering conn becomes rows) ≡ forgotten conn rows
-forgotten_holding conn becomes [] = refl
-forgotten_holding conn becomes (row ∷ rows) =
-    ap (λ (ls : List Line). of_lines row.peer ls ∷ forgotten conn (buffering conn becomes rows)) (others_holding conn becomes row.lines)
-    ∙ ap (λ (rs : List PeerLines). of_lines row.peer (others conn row.lines) ∷ rs) (forgotten_holding conn becomes rows)
+pub forgotten_buffering : (conn : ℕ) (becomes : List ℕ → List ℕ) (rows : List PeerLines) → forgotten conn (buffering conn becomes rows) ≡ forgotten conn rows
+forgotten_buffering conn becomes [] = refl
+forgotten_buffering conn becomes (row ∷ rows) =
+    ap (λ (ls : List Line). of_lines row.peer ls ∷ forgotten conn (buffering conn becomes rows)) (others_buffering conn becomes row.lines)
+    ∙ ap (λ (rs : List PeerLines). of_lines row.peer (others conn row.lines) ∷ rs) (forgotten_buffering conn becomes rows)
 
-pub holding_forgotten : (conn : ℕ) (becomes : List ℕ → List ℕ) (rows : List PeerLines) → buffering conn becomes (forgotten conn rows) ≡ forgotten conn rows
-holding_forgotten conn becomes [] = refl
-holding_forgotten conn becomes (row ∷ rows) =
-    ap (λ (ls : List Line). of_lines row.peer ls ∷ buffering conn becomes (forgotten conn rows)) (holding_others conn becomes row.lines)
-    ∙ ap (λ (rs : List PeerLines). of_lines row.peer (others conn row.lines) ∷ rs) (holding_forgotten conn becomes rows)
+pub buffering_forgotten : (conn : ℕ) (becomes : List ℕ → List ℕ) (rows : List PeerLines) → buffering conn becomes (forgotten conn rows) ≡ forgotten conn rows
+buffering_forgotten conn becomes [] = refl
+buffering_forgotten conn becomes (row ∷ rows) =
+    ap (λ (ls : List Line). of_lines row.peer ls ∷ buffering conn becomes (forgotten conn rows)) (buffering_others conn becomes row.lines)
+    ∙ ap (λ (rs : List PeerLines). of_lines row.peer (others conn row.lines) ∷ rs) (buffering_forgotten conn becomes rows)
 
 -- ---- bytes go from the front, and others come behind
 

@@ -22,9 +22,9 @@ peers_forgotten : (conn : ℕ) (rows : List PeerLines) → map peer_in (forgotte
 peers_forgotten conn [] = refl
 peers_forgotten conn (row ∷ rows) = ap (λ (ps : List ℕ). row.peer ∷ ps) (peers_forgotten conn rows)
 
-peers_holding : (conn : ℕ) (becomes : List ℕ → List ℕ) (rows : List PeerLines) → map peer_in (buffering conn becomes rows) ≡ map peer_in rows
-peers_holding conn becomes [] = refl
-peers_holding conn becomes (row ∷ rows) = ap (λ (ps : List ℕ). row.peer ∷ ps) (peers_holding conn becomes rows)
+peers_buffering : (conn : ℕ) (becomes : List ℕ → List ℕ) (rows : List PeerLines) → map peer_in (buffering conn becomes rows) ≡ map peer_in rows
+peers_buffering conn becomes [] = refl
+peers_buffering conn becomes (row ∷ rows) = ap (λ (ps : List ℕ). row.peer ∷ ps) (peers_buffering conn becomes rows)
 
 peer_opened : (conn : ℕ) (row : PeerLines) → (row_opened conn row).peer ≡ row.peer
 peer_opened conn row = by_room (has_room row)
@@ -55,7 +55,7 @@ pub opened_of : (peers : List PeerRow) (peer conn : ℕ) (rows : List PeerLines)
 opened_of peers peer conn rows are = peers_opened peer conn (forgotten conn rows) ∙ peers_forgotten conn rows ∙ are
 
 pub buffering_of : (peers : List PeerRow) (conn : ℕ) (becomes : List ℕ → List ℕ) (rows : List PeerLines) → AreOf peers rows → AreOf peers (buffering conn becomes rows)
-buffering_of peers conn becomes rows are = peers_holding conn becomes rows ∙ are
+buffering_of peers conn becomes rows are = peers_buffering conn becomes rows ∙ are
 
 -- ---- a row that has a connection
 
