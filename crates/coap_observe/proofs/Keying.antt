@@ -143,7 +143,7 @@ none_first test (r ∷ members) none = by_test (test (one_of r)) refl none (λ i
     by_test true is none rest = cc none
     by_test false is none rest = (is, rest none)
 
--- ---- other rows are as they were
+-- ---- other members are as they were
 
 off_members : (key : ℕ) (members : List Member) → Apart key (keys_of members) → without_key key members ≡ members
 off_members key [] apart = refl

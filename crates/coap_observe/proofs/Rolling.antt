@@ -14,7 +14,7 @@ use Rattle.coap_observe.specs.Rolls.{Member, key_of, one_of, keys_of, is_key, ha
 abbrev AllThere : (ℕ → Option ObservedValue) → List ℕ → Type 0
 AllThere at keys = Each (λ key. is_some (at key) ≡ true) keys
 
--- ---- what the rows say
+-- ---- what the members say
 
 pub keys_are : (at : ℕ → Option ObservedValue) (keys : List ℕ) → AllThere at keys → keys_of (members_of at keys) ≡ keys
 keys_are at [] there = refl

@@ -14,7 +14,7 @@ use Rattle.coap_tcp.specs.FrameReading.{FrameCutValue, takes, waits, refuses, le
 use Rattle.coap_tcp.proofs.Rests.{rest_found, found_rest}
 use Rattle.coap_tcp.proofs.Lengths.{length_more, short_length, length_short, length_again, nibble_below, extension_below}
 
--- an outcome that waits, or stays as it is
+-- a cut that waits, or stays as it is
 abbrev Stays : FrameCutValue → FrameCutValue → Type 0
 Stays before after = (before ≡ waits) ⊎ (after ≡ before)
 
@@ -220,7 +220,7 @@ length_waits t n (Some x) bytes fits token low e wait =
           ]
     ]
 
--- fewer bytes are held than the longest frame has, where more is waited for
+-- fewer bytes are buffered than the longest frame has, where more is waited for
 pub waits_short : (bytes : List ℕ) → IsBytes bytes → frame_at bytes ≡ waits → length bytes < 4108
 unfolding frame_at
 waits_short [] fits e = omega arith

@@ -32,7 +32,7 @@ joined (piece ∷ pieces) = piece ++ joined pieces
 abbrev pub IsRefused : List ℕ → List FrameValue → FrameCutValue → Type 0
 IsRefused buffered frames end = (fault : FrameFault) × (rest : List ℕ) × IsStream buffered frames (refuses fault) rest × (end ≡ refuses fault)
 
--- what a reader takes who holds some bytes and gets the others in pieces, and takes what is whole before each piece
+-- what a reader takes who has some bytes buffered and gets the others in pieces, and takes what is whole before each piece
 abbrev pub AreRead : List ℕ → List (List ℕ) → List FrameValue → FrameCutValue → Type 0
 AreRead buffered [] frames end = (rest : List ℕ) × IsStream buffered frames end rest
 AreRead buffered (piece ∷ pieces) frames end =

@@ -115,7 +115,7 @@ fn cut_front(bytes: &[u8]) -> FrameCut<'_>
     cut_behind(token, size, bytes)
 }
 
-/// What stands at the front of the bytes that are held.
+/// What stands at the front of the bytes that are buffered.
 pub(crate) fn cut_buffered(buffered: &[u8]) -> FrameCut<'_>
     ensures cut { cut_value result ≡ frame_at buffered.now }
     ensures begins { IfFrame result (λ frame. BeginsWith buffered.now (frame_value frame) (drop frame.length buffered.now)) }

@@ -1,6 +1,6 @@
 use crate::fault::FrameFault;
 
-/// A message at the front of a stream, in slices of the bytes that are held (RFC 8323, section 3.2).
+/// A message at the front of a stream, in slices of the bytes that are buffered (RFC 8323, section 3.2).
 #[derive(Clone, Copy)]
 pub struct Frame<'a> {
     pub code: u8,

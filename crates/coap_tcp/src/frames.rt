@@ -8,7 +8,7 @@ use dots_lists::NoMemory;
 use std::alloc::Global;
 use std::marker::Model;
 
-/// The greatest number of bytes that are held.
+/// The greatest number of bytes that are buffered.
 const GREATEST_BUFFERED: usize = 8_192;
 
 /// The bytes of a connection that came and aren't taken yet, at most 8,192. The longest frame has 4,108.
@@ -47,12 +47,12 @@ impl Frames {
         count
     }
 
-    /// What stands at the front of the bytes that are held. Takes no memory.
+    /// What stands at the front of the bytes that are buffered. Takes no memory.
     ///
     /// It looks at no more than the header where the frame isn't there whole, and else goes through the options once.
     pub fn cut<'a>(&'a self) -> FrameCut<'a>
         ensures cut { cut_value result ≡ frame_at self.now }
-        // A frame is spelled at the front of what is held.
+        // A frame is spelled at the front of what is buffered.
         ensures begins { IfFrame result (λ frame. BeginsWith self.now (frame_value frame) (drop frame.length self.now)) }
         ensures length { IfFrame result (λ frame. frame.length ≡ length (frame_bytes (frame_value frame))) }
         ensures size { IfFrame result (λ frame. (0 < frame.length) × (frame.length ≤ length self.now)) }

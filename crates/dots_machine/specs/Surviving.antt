@@ -16,7 +16,7 @@ abbrev pub ShowsState : WireAct → State → Owing State → Type 0
 ShowsState (took event at) state new = state ≡ new.last
 ShowsState (gave out done) state new = ⊤
 
--- The acts, one after the other, are a run of the machine, and beside each stands the state that it tells: beside an event the state after
+-- The acts, one after the other, are a run of the machine, and beside each stands the state that it shows: beside an event the state after
 -- it, and beside a send the one with which it was owed.
 abbrev pub Story : SettingsValue → Owing State → List Timed → List State → Owing State → Type 0
 Story settings old [] [] new = new ≡ old
@@ -25,18 +25,18 @@ Story settings old (timed ∷ acts) (state ∷ trace) new =
 Story settings old [] (state ∷ trace) new = ⊥
 Story settings old (timed ∷ acts) [] new = ⊥
 
--- the states that sends tell
+-- the states that sends show
 abbrev pub shown_by : List (State × OwnedOut) → List State
 shown_by owed = map (λ send. send.0) owed
 
--- ---- what was told before a moment
+-- ---- what was shown before a moment
 
--- a send tells the entries of its state, and an event none
+-- a send shows the entries of its state, and an event none
 abbrev pub entries_shown : WireAct → State → ℕ → ℕ
 entries_shown (took event at) state n = n
 entries_shown (gave out done) state n = length state.history
 
--- How many entries were told before the moment: those of the last send that was handed in before it, or so many where there is none.
+-- How many entries were shown before the moment: those of the last send that was handed in before it, or so many where there is none.
 abbrev pub shown : ℕ → List Timed → List State → ℕ → ℕ
 shown m [] trace n = n
 shown m (timed ∷ acts) [] n = n
@@ -66,7 +66,7 @@ NoneBefore m (timed ∷ acts) = (m ≤ timed.moment) × NoneBefore m acts
 -- ---- the disk
 
 -- At the moment the image holds calm entries that are a part of a front of the history, with the view of that front at the machine's time; and
--- the front has at least the entries that were told before.
+-- the front has at least the entries that were shown before.
 pub record MeansAt (settings : SettingsValue) (start : State) (acts : List Timed) (trace : List State) (history : List Entry) (m : ℕ) (image : ℕ → ℕ) : Type 0 where
   pub count : ℕ
   pub within : count ≤ length history

@@ -4,7 +4,7 @@ ghost use Rattle.filter_table.specs.TableRows.{is_of_client, number_after};
 use dots_lists::Text;
 use filter_rows::AclRow;
 
-/// The row of an access list as the table holds it.
+/// The row of an access list with its place in the table.
 #[derive(Drop)]
 pub struct PlacedAcl {
     /// Where it stands among the list rows: they are in order of place.

@@ -32,7 +32,7 @@ line_end row = codes " " ++ any_or (texts_of decimal row.protocols) ++ codes " "
 
 -- the rows of the lists that filter
 abbrev pub active_lists : List PlacedAcl → List AclRow
-active_lists held = filter (λ row. row.active) (map row_of_acl held)
+active_lists placed = filter (λ row. row.active) (map row_of_acl placed)
 
 -- the text where the test holds, and else none
 abbrev pub only_where : Bool → List ℕ → List ℕ

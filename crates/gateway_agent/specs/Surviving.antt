@@ -24,7 +24,7 @@ Story old (timed ∷ acts) (state ∷ trace) new =
 Story old [] (state ∷ trace) new = ⊥
 Story old (timed ∷ acts) [] new = ⊥
 
--- ---- what was told before a moment, by a run that tells these states
+-- ---- what was shown before a moment, by a run that shows these states
 
 -- a send tells the exchanges of its state, and an event none
 abbrev pub kept_shown : WireAct → GatewayState → ℕ → ℕ

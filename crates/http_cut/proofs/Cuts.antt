@@ -1,4 +1,4 @@
--- Outcomes of the held bytes, by what is read in the window.
+-- How the buffered bytes are cut, by what is read in the window.
 use Rattle.std.proofs.Common.{◌≡◌, ℕ, ◌<◌, ◌≤◌, List, length, take, drop, refl, sym, ap, subst, ◌∙◌, arith, inl, inr}
 use Rattle.std.proofs.lemmas.List.{length-take}
 use Rattle.httparse.specs.declared.spans.HeaderSpan.{HeaderSpan}

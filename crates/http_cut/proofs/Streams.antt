@@ -27,7 +27,7 @@ taken instead (takes request) = request
 taken instead waits = instead
 taken instead (refuses fault) = instead
 
--- whether an outcome is a request, a wait or a refusal
+-- whether a cut is a request, a wait or a refusal
 abbrev kind : CutValue → ℕ
 kind (takes request) = 0
 kind waits = 1
@@ -260,7 +260,7 @@ one_stream bytes rs ss e f a b x y =
     let ends : HasEnd e (any_closes ss) b = subst (λ (z : List ℕ). HasEnd e (any_closes ss) z) same.rest (subst (λ (z : List Request). HasEnd e (any_closes z) a) same.requests x.ends) in
     (same.requests, one_end b (any_closes ss) e f ends y.ends)
 
--- a request that is cut isn't longer than what is held
+-- a request that is cut isn't longer than what is buffered
 pub cut_size : (buffered : List ℕ) (cut : code.Cut) → IsCut buffered (cut_value cut) → IfRequest cut (λ request. (0 < request.length) × (request.length ≤ length buffered))
 cut_size buffered (cuts.Request request) (inl x) = first_size buffered (request_value request) x
 cut_size buffered (cuts.Request request) (inr x) = absurd x.1

@@ -135,7 +135,7 @@ all_left end left is = subst (λ (b : Bool). IsAll b left) (sym is) tt
 pub all_come : (end : Result StreamEnd NoMemory) (left : List ℕ) → is_waiting end ≡ true → IsAll (is_waiting end) left → left ≡ []
 all_come end left is all = subst (λ (b : Bool). IsAll b left) is all
 
--- some bytes of a piece came, and what is held is the rest of all that came
+-- some bytes of a piece came, and what is buffered is the rest of all that came
 pub record HasCome (old piece rest : List ℕ) (before after : List Request) (buffered : List ℕ) : Type 0 where
   pub came : List ℕ
   pub parts : piece ≡ came ++ rest

@@ -92,17 +92,17 @@ abbrev pub by_framing : Head → List ℕ → Result ℕ HttpFault → CutValue
 by_framing head rest (Ok n) = with_body head rest n
 by_framing head rest (Err fault) = refuses fault
 
--- the outcome where a head is there, with the bytes behind it
+-- how bytes are cut where a head is there, with the bytes behind it
 unfoldable pub cut_value_behind : Head → List ℕ → CutValue
 cut_value_behind head rest = by_framing head rest (framing head.fields)
 
--- the outcomes where no head is there. A head that can't come any more may be refused at once.
+-- how bytes are cut where no head is there. A head that can't come any more may be refused at once.
 abbrev pub IsHeadless : List ℕ → CutValue → Type 0
 IsHeadless bytes (takes request) = ⊥
 IsHeadless bytes waits = ¬ (IsOver bytes)
 IsHeadless bytes (refuses fault) = (fault ≡ BadHead) × (IsOver bytes ⊎ NeverHasHead bytes)
 
--- the outcome of the held bytes
+-- how the buffered bytes are cut
 abbrev pub IsCut : List ℕ → CutValue → Type 0
 IsCut bytes as_cut =
     ((head : RequestHead) × (rest : List ℕ) × BeginsWith bytes head rest × (as_cut ≡ cut_value_behind (head_of head) rest))

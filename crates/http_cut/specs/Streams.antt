@@ -46,13 +46,13 @@ pub record IsStream (bytes : List ℕ) (requests : List Request) (end : StreamEn
 abbrev pub IsOpen : List ℕ → Type 0
 IsOpen rest = NeverHasHead rest × ¬ (IsOver rest)
 
--- what is held of the rest of a stream: all of it where more is waited for, and else the front of it
+-- what is buffered of the rest of a stream: all of it where more is waited for, and else the front of it
 abbrev pub Buffers : StreamEnd → List ℕ → List ℕ → Type 0
 Buffers Waits buffered rest = buffered ≡ rest
 Buffers Closes buffered rest = (left : List ℕ) × (rest ≡ buffered ++ left)
 Buffers (Refused fault) buffered rest = (left : List ℕ) × (rest ≡ buffered ++ left) × IsCut buffered (refuses fault)
 
--- of the bytes that were brought some came to those that were there, and others are left; what is held is the rest of all
+-- of the bytes that were brought some came to those that were there, and others are left; what is buffered is the rest of all
 -- that were there or came, behind these requests
 pub record IsBuffered (old brought : List ℕ) (requests : List Request) (buffered : List ℕ) : Type 0 where
   pub came : List ℕ

@@ -37,7 +37,7 @@ fn closes(bytes: &[u8], head: &RequestSpans, fields: &[HeaderSpan]) -> bool
     asks_to_close(bytes, fields)
 }
 
-/// The outcome where a body of this size may be there whole.
+/// How the bytes are cut where a body of this size may be there whole.
 fn cut_body<'a>(
     bytes: &'a [u8],
     rest: &'a [u8],
@@ -65,7 +65,7 @@ fn cut_body<'a>(
     Cut::Request(request)
 }
 
-/// The outcome where the head is there, with the bytes behind it.
+/// How the bytes are cut where the head is there, with the bytes behind it.
 fn cut_behind<'a>(
     bytes: &'a [u8],
     rest: &'a [u8],
@@ -84,7 +84,7 @@ fn cut_behind<'a>(
     }
 }
 
-/// What stands at the front of the held bytes.
+/// What stands at the front of the buffered bytes.
 fn cut_buffered<'a>(buffered: &'a [u8], spans: &mut [HeaderSpan]) -> Cut<'a>
     requires { length spans.old ≡ 2731 }
     ensures { IsCut buffered.now (cut_value result) }
@@ -105,7 +105,7 @@ fn cut_buffered<'a>(buffered: &'a [u8], spans: &mut [HeaderSpan]) -> Cut<'a>
     }
 }
 
-/// What stands at the front of the held bytes where no head ended.
+/// What stands at the front of the buffered bytes where no head ended.
 fn cut_headless<'a>(buffered: &'a [u8], place: Place) -> Cut<'a>
     requires place { place ≡ place_from Blank buffered.now }
     requires head { is_end place ≡ false }
@@ -117,7 +117,7 @@ fn cut_headless<'a>(buffered: &'a [u8], place: Place) -> Cut<'a>
     Cut::Refused(HttpFault::BadHead)
 }
 
-/// What stands at the front of the held bytes, of which this is known.
+/// What stands at the front of the buffered bytes, of which this is known.
 pub(crate) fn cut_known<'a>(
     buffered: &'a [u8],
     place: Place,
@@ -139,7 +139,7 @@ pub(crate) fn cut_known<'a>(
     cut_buffered(buffered, spans)
 }
 
-/// How many bytes the request at the front of the held bytes needs; 0 where none stands there.
+/// How many bytes the request at the front of the buffered bytes needs; 0 where none stands there.
 pub(crate) fn needed(buffered: &[u8]) -> usize
     ensures { WaitsBelow buffered.now result }
 {

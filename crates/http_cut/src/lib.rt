@@ -1,6 +1,6 @@
 //! Requests of a stream, however it is cut, and the heads of replies.
 //!
-//! A [`Stream`] holds what came of a connection and isn't answered yet. [`Stream::take`] appends a piece,
+//! A [`Stream`] buffers what came of a connection and isn't answered yet. [`Stream::take`] appends a piece,
 //! [`Stream::cut`] answers what stands at the front (a request, nothing whole yet, or a refusal), and
 //! [`Stream::discard`] drops a request that is answered. [`take_requests`] does that for a list of pieces and copies the
 //! requests out. [`write_head`] writes the head of a reply (RFC 9112, section 4): exactly the lines of
@@ -9,7 +9,7 @@
 //! A stream costs time linear in its bytes, however it is cut into pieces: each byte of a head is looked at once as it
 //! comes, and a head is parsed where its empty line came, and not again while its body is waited for.
 //!
-//! Contracts see a stream as the bytes that it holds. Start reading at `specs/Requests.antt`, which says what stands at
+//! Contracts see a stream as the bytes that it buffers. Start reading at `specs/Requests.antt`, which says what stands at
 //! the front of some bytes, over the grammar of heads in `httparse`; `specs/Fields.antt` says what the fields mean, and
 //! `specs/Streams.antt` which requests all bytes of a stream have.
 #![tactic(auto)]

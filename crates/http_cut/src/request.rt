@@ -1,6 +1,6 @@
 use crate::fault::HttpFault;
 
-/// A request at the front of a stream, in slices of the bytes that are held (RFC 9112, section 2.1).
+/// A request at the front of a stream, in slices of the bytes that are buffered (RFC 9112, section 2.1).
 #[derive(Clone, Copy)]
 pub struct HttpRequest<'a> {
     pub method: &'a [u8],

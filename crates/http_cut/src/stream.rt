@@ -10,7 +10,7 @@ use dots_lists::NoMemory;
 use std::alloc::Global;
 use std::marker::Model;
 
-/// The greatest number of bytes that a stream holds: a head and a body of 8,192 bytes each.
+/// The greatest number of bytes that a stream buffers: a head and a body of 8,192 bytes each.
 const GREATEST_BUFFERED: usize = 16_384;
 
 /// The bytes of a connection that came and aren't answered yet, at most 16,384.
@@ -18,7 +18,7 @@ const GREATEST_BUFFERED: usize = 16_384;
 /// It remembers how far the head at its front came, and how many bytes the request needs where its body is waited for. So
 /// each byte of a head is looked at once as it comes, and none of a body: a stream costs time linear in its bytes, however
 /// it is cut into pieces. Where it is cut once behind each piece, a head is parsed once if the request came whole with the
-/// piece in which its head ended, and else three times at most. A request that is discarded costs the moving of what is held
+/// piece in which its head ended, and else three times at most. A request that is discarded costs the moving of what is buffered
 /// behind it.
 #[derive(Drop)]
 pub struct Stream {
@@ -76,7 +76,7 @@ impl Stream {
         }
     }
 
-    /// What stands at the front of the bytes that are held. Takes no memory.
+    /// What stands at the front of the bytes that are buffered. Takes no memory.
     ///
     /// Where a head ended and the body isn't known to be waited for, it goes through the head once, at most 8,192 bytes, and
     /// looks up a few of its fields. Else it looks at no byte, so that a head that can't come is refused only where it would

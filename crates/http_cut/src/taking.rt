@@ -17,7 +17,7 @@ use std::alloc::Global;
 #[derive(Drop)]
 pub struct Taken {
     pub requests: RequestList,
-    /// `NoMemory` where it isn't found for the request that is held then.
+    /// `NoMemory` where it isn't found for the request that is buffered then.
     pub end: Result<StreamEnd, NoMemory>,
 }
 
@@ -27,7 +27,7 @@ fn is_waiting(end: &Result<StreamEnd, NoMemory>) -> bool
     matches!(end, Ok(StreamEnd::Waits))
 }
 
-/// Takes out the requests that are held whole, as far as one that closes.
+/// Takes out the requests that are buffered whole, as far as one that closes.
 fn take_out(
     alloc: Global,
     stream: &mut Stream,
@@ -55,7 +55,7 @@ fn take_out(
 }
 
 /// Takes a piece of the stream, and out of it the requests that are whole then. Where none is waited for any more, the
-/// bytes behind what is held are left.
+/// bytes behind what is buffered are left.
 fn take_piece(
     alloc: Global,
     stream: &mut Stream,
@@ -103,20 +103,20 @@ fn take_pieces(
     Ok(StreamEnd::Waits)
 }
 
-/// The requests of a stream of which some bytes are held, and the rest comes in these pieces.
+/// The requests of a stream of which some bytes are buffered, and the rest comes in these pieces.
 ///
 /// However the bytes are cut into pieces, the requests are those at the front of all of them, one behind the other, as
 /// far as there are any and none asks for closing before, and so is how the stream goes on, but that a stream in which no
 /// head can come any more is refused at once or later, until a head would have ended. What came behind the requests is
-/// held, and no byte of it is dropped. Where memory isn't found for a copy of a request, the requests before it are handed
-/// out, and what is held begins with it.
+/// buffered, and no byte of it is dropped. Where memory isn't found for a copy of a request, the requests before it are handed
+/// out, and what is buffered begins with it.
 pub fn take_requests(
     alloc: Global,
     stream: &mut Stream,
     room: &mut HeadRoom,
     pieces: &[&[u8]],
 ) -> Taken
-    // What is held is the rest of all that came, in each case.
+    // What is buffered is the rest of all that came, in each case.
     ensures held { IsBuffered stream.old (flat_map (λ piece. piece.now) pieces.now) (owned_values result.requests) stream.new }
     ensures stream { IfOk result.end (λ end. (rest : List ℕ)
         × IsStream (stream.old ++ flat_map (λ piece. piece.now) pieces.now) (owned_values result.requests) end rest

@@ -10,7 +10,7 @@ use Rattle.peer_endpoints.specs.Headers.{is_get, is_response, is_reply_to}
 use Rattle.peer_endpoints.specs.Returns.{Reached, has_token, way_of, is_answered, goes_to, with_getter, getters_after, found_first, renewed, after_received, after_sent}
 use Rattle.peer_endpoints.specs.Passed.{Passed, came, went, reached, last_way, last_get, IsRecent}
 
--- ---- where the peer was heard last
+-- ---- where the last datagram of the peer came from
 
 pub last_is : (known : Option Way) (passed : List Passed) → (reached known passed).last ≡ last_way known passed
 last_is known [] = refl

@@ -6,7 +6,7 @@ use Rattle.peer_endpoints.specs.declared.getter.Getter.{Getter}
 use Rattle.peer_endpoints.specs.declared.way.Way.{Way}
 use Rattle.peer_endpoints.specs.Headers.{is_get, is_response, is_reply_to}
 
--- Of a peer: where it was heard last; the header of its last datagram, while that has no reply; and where its GETs came from, one place for each
+-- Of a peer: where its last datagram came from; the header of its last datagram, while that has no reply; and where its GETs came from, one place for each
 -- token, that which was used last in front.
 pub record Reached : Type 0 where
   pub last : Option Way
@@ -29,8 +29,8 @@ abbrev pub or_last : Option Way → Option Way → Option Way
 or_last (Some way) last = Some way
 or_last None last = last
 
--- A reply goes back to where the peer was heard last, since what it replies to came from there. Another response is a notification, which goes to
--- where the last GET with its token came from (RFC 7641, section 4.2). All else goes to where the peer was heard last.
+-- A reply goes back to where the last datagram of the peer came from, since what it replies to came from there. Another response is a notification, which goes to
+-- where the last GET with its token came from (RFC 7641, section 4.2). All else goes to where the last datagram of the peer came from.
 abbrev pub goes_to : Option Head → Reached → Option Way
 goes_to None reached = reached.last
 goes_to (Some head) reached =

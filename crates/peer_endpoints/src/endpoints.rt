@@ -12,7 +12,7 @@ use dots_lists::NoMemory;
 use std::alloc::Global;
 use std::marker::Model;
 
-/// Where a peer was heard last, and from where its GETs came.
+/// Where the last datagram of a peer came from, and from where its GETs came.
 #[derive(Drop)]
 pub struct Endpoints {
     last: Option<Way>,
@@ -33,7 +33,7 @@ impl Model for Endpoints {
 }
 
 impl Endpoints {
-    /// Those of a peer that wasn't heard, but is known to be there. This is the only call that takes memory.
+    /// Those of a peer of which nothing came yet, but that is known to be there. This is the only call that takes memory.
     pub fn new(alloc: Global, known: Option<Way>) -> Result<Endpoints, NoMemory>
         ensures { IfOk result (λ made. made ≡ record { last = known; asked = None; getters = [] }) }
     {
@@ -45,7 +45,7 @@ impl Endpoints {
         })
     }
 
-    /// Where the peer was heard last, or is known to be.
+    /// Where the last datagram of the peer came from, or where it is known to be.
     pub fn last(&self) -> Option<Way>
         ensures { result ≡ self.now.last }
     {
@@ -66,7 +66,7 @@ impl Endpoints {
         }
     }
 
-    /// Where a datagram goes that is sent now. None where the peer wasn't heard and isn't known to be anywhere.
+    /// Where a datagram goes that is sent now. None where nothing came of the peer and it isn't known to be anywhere.
     pub fn way_for(&mut self, bytes: &[u8]) -> Option<Way>
         ensures way { result ≡ goes_to (head_in bytes.now) self.old }
         ensures sent { self.new ≡ after_sent (head_in bytes.now) self.old }

@@ -257,9 +257,9 @@ module _ (settings : SettingsValue) (conn t : ℕ) (history : List Entry) (lines
 
   -- the front of a turn, of the caller and over the bytes of another
   stands_for : (caller : Caller) (line : Line) (own : Caller) (there : Line) (at : RestFront) → own ≡ caller → there ≡ line
-      → IsFront settings t history own there.held at → IsFront settings t history caller line.buffered at
+      → IsFront settings t history own there.buffered at → IsFront settings t history caller line.buffered at
   stands_for caller line own there at same_caller same_line x =
-      subst (λ (c : Caller). IsFront settings t history c line.buffered at) same_caller (subst (λ (l : Line). IsFront settings t history own l.held at) same_line x)
+      subst (λ (c : Caller). IsFront settings t history c line.buffered at) same_caller (subst (λ (l : Line). IsFront settings t history own l.buffered at) same_line x)
 
   pub first_send_fixes : (out : OwnedOut) (rest rest' : List OwnedOut) (after after' : List Entry) (behind behind' : List PeerLines)
       → HttpTurn settings conn t history lines (out ∷ rest) after behind → HttpTurn settings conn t history lines (out ∷ rest') after' behind'

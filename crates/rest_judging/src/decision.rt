@@ -19,7 +19,7 @@ pub enum RestDecision {
     Exists,
     /// There is no room for what was to be created: 503.
     Full,
-    /// It is shown: 200.
+    /// It is retrieved: 200.
     Retrieved,
     /// It is there already as it was asked for: 204. Nothing changes.
     Unchanged,

@@ -1,4 +1,4 @@
--- Bytes that come behind those that are held.
+-- Bytes that come behind those that are buffered.
 use Rattle.std.proofs.Common.{◌≡◌, ℕ, ◌+◌, ◌≤◌, Bool, true, false, cond, List, [], ◌∷◌, ◌++◌, length, map, drop, Some, refl, sym, ap, ◌∙◌, subst, arith}
 use Rattle.std.specs.Prelude.{◌||◌, not, count_by, option_map, ⊤}
 use Rattle.std.specs.List.{find, list_any}
@@ -9,7 +9,7 @@ use Rattle.stream_table.specs.Lines.{Line, PeerLines, is_number, all_lines, line
 use Rattle.stream_table.specs.Places.{AreApart, buffered_by, with_more}
 use Rattle.stream_table.proofs.Placing.{one_there}
 
--- ---- a line that holds other bytes has its number
+-- ---- a line with other bytes has its number
 
 by_number : (conn : ℕ) (becomes : List ℕ → List ℕ) (line : Line) → is_number conn (line_buffering conn becomes line) ≡ is_number conn line
 by_number conn becomes line = by_test (is_number conn line)
@@ -62,7 +62,7 @@ same_peer conn becomes (row ∷ rows) =
     by_test true false is rest = absurd (false≢true is)
     by_test false true is rest = absurd (false≢true (sym is))
 
--- ---- it is forgotten with all that it holds
+-- ---- it is forgotten with all that is buffered of it
 
 others_buffering : (conn : ℕ) (becomes : List ℕ → List ℕ) (lines : List Line) → others conn (map (line_buffering conn becomes) lines) ≡ others conn lines
 others_buffering conn becomes [] = refl
@@ -103,7 +103,7 @@ buffering_forgotten conn becomes (row ∷ rows) =
 
 -- ---- bytes go from the front, and others come behind
 
--- at least so many are held of each connection of this number
+-- at least so many are buffered of each connection of this number
 abbrev HasBytes : ℕ → ℕ → List Line → Type 0
 HasBytes conn n [] = ⊤
 HasBytes conn n (line ∷ lines) = (is_number conn line ≡ true → n ≤ length line.buffered) × HasBytes conn n lines

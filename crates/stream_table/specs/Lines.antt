@@ -119,6 +119,6 @@ line_buffering conn becomes line = if is_number conn line then record { conn = l
 abbrev pub row_buffering : ℕ → (List ℕ → List ℕ) → PeerLines → PeerLines
 row_buffering conn becomes row = record { peer = row.peer; lines = map (line_buffering conn becomes) row.lines }
 
--- what is held of the connection of this number becomes other bytes, and all else is as it was
+-- what is buffered of the connection of this number becomes other bytes, and all else is as it was
 abbrev pub buffering : ℕ → (List ℕ → List ℕ) → List PeerLines → List PeerLines
 buffering conn becomes rows = map (row_buffering conn becomes) rows

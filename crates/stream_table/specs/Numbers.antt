@@ -1,4 +1,4 @@
--- The numbers of a peer's connections beside what they hold.
+-- The numbers of a peer's connections beside what is buffered of them.
 use Rattle.std.specs.Prelude.{ℕ, List, [], ◌∷◌, Option, Some, None}
 use Rattle.stream_table.specs.declared.numbers.Numbers.{Numbers}
 use Rattle.stream_table.specs.declared.numbers.Numbers.TheVariants as numbers
@@ -6,7 +6,7 @@ use Rattle.stream_table.specs.declared.seat.Seat.{Seat}
 use Rattle.stream_table.specs.declared.seat.Seat.TheVariants.{Older, Newer}
 use Rattle.stream_table.specs.Lines.{Line}
 
--- the lines of so many connections, where the first two places hold these bytes
+-- the lines of so many connections, where the first two places have these bytes
 abbrev pub numbered_lines : Numbers → List ℕ → List ℕ → List Line
 numbered_lines numbers.Free older newer = []
 numbered_lines (numbers.One first) older newer = record { conn = first; buffered = older } ∷ []

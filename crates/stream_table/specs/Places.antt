@@ -23,7 +23,7 @@ conn_at place rows = option_map conn_of (line_at place rows)
 abbrev pub AreApart : List PeerLines → Type 0
 AreApart rows = (conn : ℕ) → count_by (is_number conn) (all_lines rows) ≤ 1
 
--- other bytes are held
+-- other bytes are buffered
 abbrev pub buffered_by : (List ℕ → List ℕ) → Line → Line
 buffered_by becomes line = record { conn = line.conn; buffered = becomes line.buffered }
 
@@ -34,13 +34,13 @@ pub record IsAt (conn : ℕ) (place : LinePlace) (rows : List PeerLines) : Type 
   pub there : line_at place rows ≡ Some line
   pub found : line_of conn rows ≡ Some line
 
--- of the connection that stood at this place other bytes are held then, and all else is as it was
+-- of the connection that stood at this place other bytes are buffered then, and all else is as it was
 pub record NowBuffers (place : LinePlace) (becomes : List ℕ → List ℕ) (old new : List PeerLines) (line : Line) : Type 0 where
   pub there : line_at place new ≡ Some (buffered_by becomes line)
   pub found : line_of line.conn new ≡ Some (buffered_by becomes line)
   pub all : new ≡ buffering line.conn becomes old
 
--- bytes come behind those that are held
+-- bytes come behind those that are buffered
 abbrev pub with_more : List ℕ → List ℕ → List ℕ
 with_more bytes buffered = buffered ++ bytes
 

@@ -3,15 +3,15 @@ ghost use Rattle.std.specs.Prelude.{◌≡◌, ℕ, ◌-◌, ◌≤◌, ◌++◌
 use dots_lists::NoMemory;
 use std::alloc::Global;
 
-/// What holds the bytes of a connection that came and aren't answered yet.
+/// What buffers the bytes of a connection that came and aren't answered yet.
 pub trait Buffers {
-    /// The bytes that are held.
+    /// The bytes that are buffered.
     ghost bytes: { Self → List ℕ };
 
-    /// How many bytes it holds at most.
+    /// How many bytes it buffers at most.
     ghost most: { ℕ };
 
-    /// One that holds nothing. `NoMemory` only where its room isn't found.
+    /// One with nothing buffered. `NoMemory` only where its room isn't found.
     fn new(alloc: Global) -> Result<Self, NoMemory>
         ensures { IfOk result (λ made. bytes made ≡ []) };
 

@@ -5,7 +5,7 @@ ghost use Rattle.dots_settings.specs.declared.peer.PeerRow.{PeerRow};
 ghost use Rattle.dots_settings.specs.Settings.{SettingsValue, IsSettings};
 ghost use Rattle.stream_table.specs.Lines.{Line, PeerLines, no_lines, AreOf, IsClientOf, emptied, forgotten, opened, buffering, line_of, peer_of};
 
-/// There is a row for each client of the settings, in their order: so it is at the start, and so it stays, whatever is opened, forgotten or held.
+/// There is a row for each client of the settings, in their order: so it is at the start, and so it stays, whatever is opened, forgotten or buffered.
 pub fn each_client_has_a_row()
     ensures begun { (peers : List PeerRow) → AreOf peers (flat_map no_lines peers) }
     ensures emptied { (peers : List PeerRow) (rows : List PeerLines) → AreOf peers rows → AreOf peers (emptied rows) }

@@ -1,11 +1,11 @@
-//! The open connections of a server, with what is held of each.
+//! The open connections of a server, with what is buffered of each.
 //!
 //! A [`StreamTable`] has a row for each client peer of the settings, in their order, and at most two connections in each.
 //! [`StreamTable::open`] takes a connection or refuses it, [`StreamTable::take`] takes bytes that came of one, and
 //! [`StreamTable::forget`] lets one go. [`StreamTable::place`] finds a connection by its number; at the place [`StreamTable::stream`]
-//! lends what is held, for a reader of requests, and [`StreamTable::discard`] drops the bytes of a request that is answered.
+//! lends what is buffered, for a reader of requests, and [`StreamTable::discard`] drops the bytes of a request that is answered.
 //!
-//! What holds the bytes is any [`Buffers`]. Only [`StreamTable::new`] takes memory, that of two streams for each client peer: a connection
+//! What buffers the bytes is any [`Buffers`]. Only [`StreamTable::new`] takes memory, that of two streams for each client peer: a connection
 //! that is opened finds its stream made.
 //!
 //! [`laws`] say that each row is of a client. Contracts see a table as the list of its rows. Start reading at `specs/Lines.antt`.

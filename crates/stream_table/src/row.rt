@@ -120,7 +120,7 @@ impl<B: Buffers + Drop> Row<B> {
         self.numbers = Numbers::Free;
     }
 
-    /// What is held of the connection at this place.
+    /// What is buffered of the connection at this place.
     pub fn stream(&self, seat: Seat) -> &B
         requires { is_some (line_in seat self.now.lines) ≡ true }
         ensures { (line : Line) → line_in seat self.now.lines ≡ Some line → B.bytes result.now ≡ line.buffered }

@@ -66,7 +66,7 @@ impl<B: Buffers + Drop> StreamTable<B> {
         open_in(&mut self.rows, peer, conn)
     }
 
-    /// The connection of this number is let go, with what is held of it. Where none has the number nothing changes. Takes no memory.
+    /// The connection of this number is let go, with what is buffered of it. Where none has the number nothing changes. Takes no memory.
     pub fn forget(&mut self, conn: u32)
         ensures { self.new ≡ forgotten conn self.old }
     {
@@ -88,7 +88,7 @@ impl<B: Buffers + Drop> StreamTable<B> {
         peer_at(&self.rows, place)
     }
 
-    /// What is held of the connection at this place.
+    /// What is buffered of the connection at this place.
     pub fn stream(&self, place: LinePlace) -> &B
         requires { is_some (conn_at place self.now) ≡ true }
         ensures { (line : Line) → line_at place self.now ≡ Some line → B.bytes result.now ≡ line.buffered }
@@ -106,7 +106,7 @@ impl<B: Buffers + Drop> StreamTable<B> {
         take_in(&mut self.rows, place, piece)
     }
 
-    /// Drops bytes from the front of what is held at this place, those of a request that is answered. Takes no memory.
+    /// Drops bytes from the front of what is buffered at this place, those of a request that is answered. Takes no memory.
     pub fn discard(&mut self, place: LinePlace, n: usize)
         requires { (line : Line) × (line_at place self.old ≡ Some line) × (n ≤ length line.buffered) }
         ensures { (line : Line) → line_at place self.old ≡ Some line → NowBuffers place (drop n) self.old self.new line }
