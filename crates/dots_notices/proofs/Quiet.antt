@@ -62,7 +62,7 @@ module _ (lists : Lists) (among : DueAmong) (rows : List ObservedValue) (from pl
   now = went.1 ∙ ap (replace_at place (after_notice lists went.0)) here.are ∙ replaced (after_notice lists went.0) here.front here.back one place here.length_is
 
   -- what stands in front of it is the same
-  was : (at : ℕ) (o : ObservedValue) → at < place → slice_get new at ≡ Some o → slice_get rows at ≡ Some o
+  pub was : (at : ℕ) (o : ObservedValue) → at < place → slice_get new at ≡ Some o → slice_get rows at ≡ Some o
   was at o less is =
       ap (λ xs. slice_get xs at) here.are
       ∙ front_same here.front (after_notice lists went.0 one ++ here.back) (one ∷ here.back) at o (let n = here.length_is in omega (arith, n, less)) (ap (λ xs. slice_get xs at) (sym now) ∙ is)
@@ -72,7 +72,7 @@ module _ (lists : Lists) (among : DueAmong) (rows : List ObservedValue) (from pl
       ap (λ xs. slice_get xs at) now
       ∙ front_same here.front (one ∷ here.back) (after_notice lists went.0 one ++ here.back) at o (let n = here.length_is in omega (arith, n, less)) (ap (λ xs. slice_get xs at) (sym here.are) ∙ is)
 
-  at_place : is_gone lists one ≡ false → NoneIsDue lists among place (place + 1) new
+  pub at_place : is_gone lists one ≡ false → NoneIsDue lists among place (place + 1) new
   at_place left at o low less is within =
       let same : at ≡ place = omega (arith, low, less) in
       let stay = cond-false (is_gone lists one) [] (notified went.0 (list_for lists one.observer) one ∷ []) left in

@@ -1,5 +1,6 @@
 -- What the notifications after an event make of the observers, and of the Message IDs of their peers.
 use Rattle.std.specs.Prelude.{◌≡◌, ◌⊎◌, ℕ, ◌+◌, Bool, true, if◌then◌else◌, List, [], ◌∷◌, ◌++◌, length, slice_get, Option, Some, None, MatchOption, ⊤}
+use Rattle.dots_lists.specs.declared.memory.NoMemory.{NoMemory}
 use Rattle.dots_history.specs.Histories.{is_nil}
 use Rattle.dots_host.specs.declared.out.OwnedOut.{OwnedOut}
 use Rattle.dots_host.specs.declared.out.OwnedOut.TheVariants as owned
@@ -56,6 +57,11 @@ IsOneDue lists observed = (place : ℕ) × (o : ObservedValue) × (slice_get obs
 abbrev pub IsKnown : Lists → DueAmong → List ObservedValue → Type 0
 IsKnown lists among observed = ((among ≡ Nobody) × AreNotified lists Nobody observed) ⊎ ((among ≡ Anybody) × IsOneDue lists observed)
 
+-- each that is due has a peer that was never heard, so there is no Message ID for it
+abbrev pub OnlyUnheardAreDue : Lists → List PeerContact → List ObservedValue → Type 0
+OnlyUnheardAreDue lists contacts observed =
+    (place : ℕ) (o : ObservedValue) → slice_get observed place ≡ Some o → is_due lists o ≡ true → number_of o.observer.peer contacts ≡ None
+
 -- ---- no two observe under one token
 
 abbrev pub Unlike : ObservedValue → List ObservedValue → Type 0
@@ -74,6 +80,11 @@ pub record IsMade (lists : Lists) (bodies : Bodies) (contacts : List PeerContact
   pub peer_is : peer ≡ one.observer.peer
   pub gone_is : gone ≡ is_gone lists one
   pub bytes : MatchOption made ⊤ (λ bytes. (id : ℕ) × (number_of one.observer.peer contacts ≡ Some id) × (bytes ≡ notice_bytes lists bodies id one))
+
+-- a notification that wasn't made, though no memory was refused, is to a peer that was never heard
+abbrev pub IsExcused : List PeerContact → ℕ → Option (List ℕ) → Option NoMemory → Type 0
+IsExcused contacts peer None None = number_of peer contacts ≡ None
+IsExcused contacts peer _ _ = ⊤
 
 -- The one at a place was notified, where its notification was made, or else it is as it was; and the next one is looked for from a place on.
 pub data OneNotified (lists : Lists) (bodies : Bodies) (rows : List ObservedValue) (contacts : List PeerContact) (place : ℕ) (one : ObservedValue)

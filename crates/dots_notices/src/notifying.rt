@@ -1,6 +1,6 @@
 //! Notifications after an event.
 
-ghost use Rattle.std.specs.Prelude.{◌≡◌, ◌+◌, ◌^◌, ◌<◌, ◌≤◌, true, if◌then◌else◌, List, length, slice_get, Some, IfOk, IfSome, MatchOption};
+ghost use Rattle.std.specs.Prelude.{◌≡◌, ◌+◌, ◌^◌, ◌<◌, ◌≤◌, true, if◌then◌else◌, List, length, slice_get, Some, None, IfOk, IfSome, MatchOption};
 ghost use Rattle.dots_host.specs.Runs.{Added};
 ghost use Rattle.dots_host.specs.declared.out.OwnedOut.{OwnedOut};
 ghost use Rattle.dots_disk.specs.Becoming.{KeepsMedia};
@@ -9,7 +9,7 @@ ghost use Rattle.coap_observe.specs.Observing.{NoneIsDue};
 ghost use Rattle.coap_observe.specs.DueAmong.{AreNotified};
 ghost use Rattle.coap_observe.specs.declared.due_among.DueAmong.TheVariants.{Nobody, Anybody};
 ghost use Rattle.dots_notices.specs.Notices.{content_notice, gone_notice};
-ghost use Rattle.dots_notices.specs.Notifying.{Notifies, SentTo, IsMade, OneNotified, IsKnown};
+ghost use Rattle.dots_notices.specs.Notifying.{Notifies, SentTo, IsMade, OneNotified, IsKnown, OnlyUnheardAreDue, IsExcused};
 
 use crate::notices::{content_notice, gone_notice};
 use crate::sending::send_to;
@@ -30,6 +30,8 @@ struct Due {
     gone: bool,
     /// What is sent; None where there is no memory for it, or the peer wasn't heard.
     bytes: Option<Bytes>,
+    /// What refused memory for it.
+    refused: Option<NoMemory>,
 }
 
 /// Notifies each observer that is due of what there is to see now, in the order of registration (RFC 7641, section 4.2; RFC 9132, section
@@ -42,6 +44,9 @@ pub fn notify<H: Host, S: ViewBodies>(host: &mut H, alloc: Global, watch: &mut W
     // Where all others were notified before, nobody is due any more, or one is that was passed over.
     ensures due { AreNotified (S.Views.lists view_bodies.now) watch.old.due watch.old.observers.observed
         → IsKnown (S.Views.lists view_bodies.now) watch.new.due watch.new.observers.observed }
+    // And where no memory was refused, nobody is due but those whose peer was never heard.
+    ensures all { AreNotified (S.Views.lists view_bodies.now) watch.old.due watch.old.observers.observed → watch.new.refused ≡ None
+        → OnlyUnheardAreDue (S.Views.lists view_bodies.now) watch.new.sessions watch.new.observers.observed }
     ensures room { watch.new.observers.room ≡ watch.old.observers.room }
     ensures pairs { watch.new.observers.pairs ≡ watch.old.observers.pairs }
     ensures media { KeepsMedia (H.media host.old) (H.media host.new) }
@@ -52,11 +57,14 @@ pub fn notify<H: Host, S: ViewBodies>(host: &mut H, alloc: Global, watch: &mut W
 {
     let mut from = 0;
     let mut passed_over = false;
+    let mut refused = None;
     while let Some(due) = next_notice(alloc, watch, view_bodies, from) {
         passed_over |= due.bytes.is_none();
+        refused = last_refused(refused, due.refused);
         from = notify_one(host, watch, view_bodies, due);
     }
     watch.due = due_behind(passed_over);
+    watch.refused = refused;
 }
 
 /// Among whom an observer may be due, once all were notified but those that were passed over.
@@ -76,20 +84,35 @@ fn next_notice<S: ViewBodies>(alloc: Global, watch: &Watch, view_bodies: &S, fro
         × (due.place < length watch.now.observers.observed) × (from ≤ due.place) × (is_due (S.Views.lists view_bodies.now) one ≡ true)
         × IsMade (S.Views.lists view_bodies.now) (S.bodies view_bodies.now) watch.now.sessions one due.peer due.gone due.bytes
         × NoneIsDue (S.Views.lists view_bodies.now) watch.now.due from due.place watch.now.observers.observed) }
+    ensures excused { IfSome result (λ due. IsExcused watch.now.sessions due.peer due.bytes due.refused) }
     ensures few { IfSome result (λ due. due.place + 1 < 2 ^ 64) }
 {
     let notice = watch.observers.next_due(view_bodies, watch.due, from)?;
     let peer = notice.observer.peer;
-    let bytes = match watch.sessions.next_number(peer) {
-        Some(id) => bytes_of(alloc, view_bodies, &notice, id).ok(),
-        None => None,
+    let (bytes, refused) = match watch.sessions.next_number(peer) {
+        Some(id) => match bytes_of(alloc, view_bodies, &notice, id) {
+            Ok(bytes) => (Some(bytes), None),
+            Err(fault) => (None, Some(fault)),
+        },
+        None => (None, None),
     };
     Some(Due {
         place: notice.place,
         peer,
         gone: notice.gone,
         bytes,
+        refused,
     })
+}
+
+/// What refused memory last.
+fn last_refused(before: Option<NoMemory>, now: Option<NoMemory>) -> Option<NoMemory>
+    ensures { result ≡ None → (before ≡ None) × (now ≡ None) }
+{
+    match now {
+        Some(fault) => Some(fault),
+        None => before,
+    }
 }
 
 /// The bytes of a notification with this Message ID.
@@ -140,6 +163,7 @@ fn notify_one<H: Host, S: ViewBodies>(host: &mut H, watch: &mut Watch, view_bodi
         peer,
         gone,
         bytes,
+        refused: _,
     } = due;
     match bytes {
         Some(bytes) => {

@@ -7,6 +7,7 @@ ghost use Rattle.coap_observe.specs.Observing.{has_room, number_for, registered,
 ghost use Rattle.session_core.specs.Contacts.{is_of, heard_from};
 
 use coap_observe::{DueAmong, Observer, Observers, Views};
+use dots_lists::NoMemory;
 use session_core::Sessions;
 
 /// The observers of mitigations, and the sessions with all peers, whose Message IDs notifications take.
@@ -16,6 +17,8 @@ pub struct Watch {
     pub sessions: Sessions,
     /// Among whom an observer may be due: what the others were notified of last is what there is to see.
     pub due: DueAmong,
+    /// What refused memory for a notification when observers were notified last.
+    pub refused: Option<NoMemory>,
 }
 
 impl Watch {

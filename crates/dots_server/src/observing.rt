@@ -7,7 +7,7 @@ ghost use Rattle.dots_disk.specs.Becoming.{KeepsMedia};
 ghost use Rattle.dots_settings.specs.Settings.{SettingsValue};
 ghost use Rattle.dots_history.specs.declared.entry.Entry.{Entry};
 ghost use Rattle.dots_machine.specs.Machine.{State, Notified};
-ghost use Rattle.dots_notices.specs.Notifying.{SentTo, IsKnown};
+ghost use Rattle.dots_notices.specs.Notifying.{SentTo, IsKnown, OnlyUnheardAreDue};
 ghost use Rattle.dots_registry.specs.ObserverViews.{views_of};
 ghost use Rattle.dots_server.specs.Observing.{MayObserve, changed};
 ghost use Rattle.dots_server.specs.ServerValues.{observers_of, IsKept};
@@ -99,6 +99,8 @@ impl Server {
             → (sends : List OwnedOut) × (new : State) × Notified settings state sends new × IsKept self.new settings new entries
             × Added (H.acts host.old) (H.acts host.new) (SentTo (H.moment host.old) (H.moment host.new) sends) }
         ensures known { IsKnown (views_of self.new.registry) self.new.watch.due self.new.watch.observers.observed }
+        ensures all { self.new.watch.refused ≡ None
+            → OnlyUnheardAreDue (views_of self.new.registry) self.new.watch.sessions self.new.watch.observers.observed }
         ensures journal { self.new.journal ≡ self.old.journal }
         ensures settings { self.new.settings ≡ self.old.settings }
         ensures adds { Added (H.acts host.old) (H.acts host.new) (λ _. ⊤) }
@@ -108,12 +110,10 @@ impl Server {
         ensures wire { H.Wire.faults host.new ≡ H.Wire.faults host.old }
         ensures leads { H.leads host.old host.new }
     {
-        if !self.watch.due.is_nobody() {
-            let shown = ServerViews {
-                settings: &self.settings,
-                registry: self.ledger.registry(),
-            };
-            notify(host, self.alloc, &mut self.watch, &shown);
-        }
+        let shown = ServerViews {
+            settings: &self.settings,
+            registry: self.ledger.registry(),
+        };
+        notify(host, self.alloc, &mut self.watch, &shown);
     }
 }

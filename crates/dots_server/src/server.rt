@@ -23,9 +23,9 @@ ghost use Rattle.dots_machine.specs.Machine.{State, begun_from, later, restarted
 ghost use Rattle.dots_machine.specs.Report.{report_of};
 ghost use Rattle.dots_registry.specs.RegistryValues.{time_of};
 ghost use Rattle.dots_registry.specs.ObserverViews.{views_of};
-ghost use Rattle.session_core.specs.Contacts.{heard_from, unheard};
+ghost use Rattle.session_core.specs.Contacts.{heard_from, unheard, number_of};
 ghost use Rattle.dots_notices.specs.Beats.{beats};
-ghost use Rattle.dots_notices.specs.Notifying.{SentTo, IsKnown};
+ghost use Rattle.dots_notices.specs.Notifying.{SentTo, IsKnown, OnlyUnheardAreDue};
 ghost use Rattle.dots_server.specs.ServerValues.{observers_of, Represents, IsKept, IsAcceptable, CanCarryOut, IsAccepted};
 ghost use Rattle.dots_server.specs.Sessions.{beaten};
 ghost use Rattle.dots_server.specs.Taking.{Took, BrokeOff, Answered, Failing};
@@ -199,6 +199,9 @@ impl Server {
         // Behind an event by which observers are notified none is due any more; or one is that was passed over, and all are looked at by the
         // next such event.
         ensures observers { OnOk result (MayNotify got.now.what → IsKnown (views_of self.new.registry) self.new.watch.due self.new.watch.observers.observed) }
+        // And where no memory was refused to a notification, each observer whose view differs was notified, unless its peer was never heard.
+        ensures all { OnOk result (MayNotify got.now.what → self.new.watch.refused ≡ None
+            → OnlyUnheardAreDue (views_of self.new.registry) self.new.watch.sessions self.new.watch.observers.observed) }
         ensures adds { Added (H.acts host.old) (H.acts host.new) (λ _. ⊤) }
         ensures settings { self.new.settings ≡ self.old.settings }
         ensures slots { self.new.journal.slots ≡ self.old.journal.slots }
@@ -252,6 +255,8 @@ impl Server {
         ensures failed { OnErr result ((settings : SettingsValue) (state : State) (entries : List Entry) → IsKept self.old settings state entries
             → Failing settings state peer datagram.now self.old entries (H.media host.old) (H.media host.new) (H.acts host.old) (H.acts host.new)) }
         ensures observers { OnOk result (IsKnown (views_of self.new.registry) self.new.watch.due self.new.watch.observers.observed) }
+        ensures all { OnOk result (self.new.watch.refused ≡ None
+            → OnlyUnheardAreDue (views_of self.new.registry) self.new.watch.sessions self.new.watch.observers.observed) }
         ensures adds { Added (H.acts host.old) (H.acts host.new) (λ _. ⊤) }
         ensures settings { self.new.settings ≡ self.old.settings }
         ensures slots { self.new.journal.slots ≡ self.old.journal.slots }
@@ -306,6 +311,7 @@ impl Server {
         ensures kept { (settings : SettingsValue) (state : State) (entries : List Entry) → IsKept self.old settings state entries → IsKept self.new settings (beaten settings state) entries }
         ensures registry { self.new.registry ≡ self.old.registry }
         ensures watch { self.new.watch ≡ record self.old.watch { sessions = self.new.watch.sessions } }
+        ensures unheard { (peer : ℕ) → number_of peer self.old.watch.sessions ≡ None → number_of peer self.new.watch.sessions ≡ None }
         ensures journal { self.new.journal ≡ self.old.journal }
         ensures settings { self.new.settings ≡ self.old.settings }
         ensures adds { Added (H.acts host.old) (H.acts host.new) (λ _. ⊤) }
@@ -430,5 +436,6 @@ fn watch_for(alloc: Global, settings: &Settings) -> Result<Watch, NoMemory>
         observers,
         sessions,
         due: DueAmong::Nobody,
+        refused: None,
     })
 }

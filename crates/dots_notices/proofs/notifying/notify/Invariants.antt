@@ -1,4 +1,4 @@
-use Rattle.std.proofs.Common.{◌≡◌, true, false, List, length, ◌-◌}
+use Rattle.std.proofs.Common.{◌≡◌, true, false, List, length, None, ◌-◌}
 use Rattle.dots_host.specs.Runs.{Added}
 use Rattle.dots_host.specs.declared.out.OwnedOut.{OwnedOut}
 use Rattle.dots_disk.specs.Becoming.{KeepsMedia}
@@ -6,6 +6,7 @@ use Rattle.coap_observe.specs.Observing.{NoneIsDue}
 use Rattle.dots_notices.specs.Notifying.{SentTo}
 use Rattle.dots_notices.proofs.Ordering.{Far}
 use Rattle.dots_notices.proofs.Quiet.{IsOneOwed}
+use Rattle.dots_notices.proofs.Excused.{OnlyUnheard}
 use Rattle.dots_notices.proofs.notifying.notify.Given as goal
 
 abbrev pub invariant-loop-due : goal.invariant-loop-due
@@ -14,6 +15,7 @@ invariant-loop-due g l = record {
       × Added (g.H.Wire.acts l.fn.host) (g.H.Wire.acts l.host) (SentTo (g.H.Wire.moment l.fn.host) (g.H.Wire.moment l.host) sends);
   quiet : l.passed_over ≡ false → NoneIsDue (g.S.Views.lists l.view_bodies) l.fn.watch.due 0 l.from l.watch.observers.observed;
   owed : l.passed_over ≡ true → IsOneOwed (g.S.Views.lists l.view_bodies) l.from l.watch.observers.observed;
+  all : l.refused ≡ None → OnlyUnheard (g.S.Views.lists l.view_bodies) l.fn.watch.due l.watch.sessions 0 l.from l.watch.observers.observed;
   due : l.watch.due ≡ l.fn.watch.due;
   room : l.watch.observers.room ≡ l.fn.watch.observers.room;
   pairs : l.watch.observers.pairs ≡ l.fn.watch.observers.pairs;

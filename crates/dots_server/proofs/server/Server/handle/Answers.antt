@@ -6,6 +6,8 @@ use Rattle.slot_store.specs.StoreValues.{JournalValue}
 use Rattle.slot_journal.specs.DiskEntries as journal
 use Rattle.dots_ledger.proofs.Answering.{ok_as, err_as, err_of}
 use Rattle.dots_notices.specs.Beats.{beats}
+use Rattle.std.specs.Prelude.{slice_get}
+use Rattle.coap_observe.specs.Observed.{is_due}
 use Rattle.dots_notices.specs.declared.watch.Watch.{Watch}
 use Rattle.dots_registry.specs.RegistryValues.{RegistryValue}
 use Rattle.dots_registry.specs.ObserverViews.{views_of}
@@ -259,3 +261,27 @@ returns-in-Opened-clause-observers g c = λ tells. absurd (subst MayNotify c.in-
 
 pub returns-in-Closed-clause-observers : goal.returns-in-Closed-clause-observers
 returns-in-Closed-clause-observers g c = λ tells. absurd (subst MayNotify c.in-Closed.is tells)
+
+-- ---- and where no memory was refused
+
+pub returns-in-Datagram-clause-all : goal.returns-in-Datagram-clause-all
+returns-in-Datagram-clause-all g c =
+    ok_as c.take_datagram.result _ _ (λ all tells none. all none) c.take_datagram.ensures.all
+
+pub returns-in-Tick-clause-all : goal.returns-in-Tick-clause-all
+returns-in-Tick-clause-all g c = λ tells none place o there due.
+    let told = c.notify.new.self in
+    let beats = c.send_heartbeats.ensures in
+    beats.unheard o.observer.peer
+    (c.notify.ensures.all (ap (λ (w : Watch). w.refused) (sym beats.watch) ∙ none) place o
+    (ap (λ (w : Watch). slice_get w.observers.observed place) (sym beats.watch) ∙ there)
+    (ap (λ (tables : RegistryValue). is_due (views_of tables) o) (sym beats.registry) ∙ due))
+
+pub returns-in-Piece-clause-all : goal.returns-in-Piece-clause-all
+returns-in-Piece-clause-all g c = λ tells. c.notify-in-Piece.ensures.all
+
+pub returns-in-Opened-clause-all : goal.returns-in-Opened-clause-all
+returns-in-Opened-clause-all g c = λ tells. absurd (subst MayNotify c.in-Opened.is tells)
+
+pub returns-in-Closed-clause-all : goal.returns-in-Closed-clause-all
+returns-in-Closed-clause-all g c = λ tells. absurd (subst MayNotify c.in-Closed.is tells)

@@ -1,15 +1,13 @@
-use Rattle.std.proofs.Common.{◌≡◌, inl, [], sym, ap, ◌∙◌, subst}
+use Rattle.std.proofs.Common.{sym, subst}
 use Rattle.coap_observe.specs.declared.due_among.DueAmong.{DueAmong}
 use Rattle.coap_observe.specs.DueAmong.{AreNotified}
-use Rattle.coap_observe.proofs.Notified.{nobody_is}
 use Rattle.dots_machine.specs.Machine.{State}
-use Rattle.dots_notices.specs.Notifying.{Notifies, IsKnown}
+use Rattle.dots_notices.specs.Notifying.{Notifies, IsKnown, OnlyUnheardAreDue}
 use Rattle.dots_registry.specs.RegistryValues.{RegistryValue}
 use Rattle.dots_registry.specs.ObserverViews.{views_of}
 use Rattle.dots_server.specs.Observing.{bodies_of}
-use Rattle.dots_notices.proofs.Sends.{sent_none}
 use Rattle.dots_server.specs.ServerValues.{ServerValue, IsKept}
-use Rattle.dots_server.proofs.Notifying.{notified_kept, notified_lives, notified_so, none_notified}
+use Rattle.dots_server.proofs.Notifying.{notified_kept, notified_lives, notified_so}
 use Rattle.dots_server.proofs.server.Server.notify.Goals as goal
 
 pub invariant_of-self : goal.invariant_of-self
@@ -21,22 +19,15 @@ invariant_of-self g c =
     (c.notify.ensures.due (subst (λ (tables : RegistryValue). AreNotified (views_of tables) old.watch.due old.watch.observers.observed) (sym c.registry.ensures) c.self.invariant.notified)))
     c.self.invariant
 
-pub returns-then-not-is_nobody-clause-known : goal.returns-then-not-is_nobody-clause-known
-returns-then-not-is_nobody-clause-known g c =
+pub returns-clause-known : goal.returns-clause-known
+returns-clause-known g c =
     let old : ServerValue = record { settings = c.self.inside.settings; registry = c.self.inside.ledger.registry; journal = c.self.inside.ledger.journal; watch = c.self.inside.watch; lines = c.self.inside.lines } in
     let watch = c.notify.new.watch in
     subst (λ (tables : RegistryValue). IsKnown (views_of tables) watch.due watch.observers.observed) c.registry.ensures
     (c.notify.ensures.due (subst (λ (tables : RegistryValue). AreNotified (views_of tables) old.watch.due old.watch.observers.observed) (sym c.registry.ensures) c.self.invariant.notified))
 
-pub returns-else-not-is_nobody-clause-known : goal.returns-else-not-is_nobody-clause-known
-returns-else-not-is_nobody-clause-known g c =
-    let old : ServerValue = record { settings = c.self.inside.settings; registry = c.self.inside.ledger.registry; journal = c.self.inside.ledger.journal; watch = c.self.inside.watch; lines = c.self.inside.lines } in
-    let none = nobody_is old.watch.due (sym c.is_nobody.ensures ∙ c.if-not-is_nobody.false) in
-    subst (λ (server : ServerValue). IsKnown (views_of server.registry) server.watch.due server.watch.observers.observed) c.self.view_is
-    (inl (none, subst (λ among. AreNotified (views_of old.registry) among old.watch.observers.observed) none c.self.invariant.notified))
-
-pub returns-then-not-is_nobody-clause-notified : goal.returns-then-not-is_nobody-clause-notified
-returns-then-not-is_nobody-clause-notified g c = λ settings state entries kept.
+pub returns-clause-notified : goal.returns-clause-notified
+returns-clause-notified g c = λ settings state entries kept.
     let old : ServerValue = record { settings = c.self.inside.settings; registry = c.self.inside.ledger.registry; journal = c.self.inside.ledger.journal; watch = c.self.inside.watch; lines = c.self.inside.lines } in
     let here = subst (λ server. IsKept server settings state entries) (sym c.self.view_is) kept in
     let watch = c.notify.new.watch in
@@ -50,6 +41,12 @@ returns-then-not-is_nobody-clause-notified g c = λ settings state entries kept.
       notified.2,
     )
 
-pub returns-else-not-is_nobody-clause-notified : goal.returns-else-not-is_nobody-clause-notified
-returns-else-not-is_nobody-clause-notified g c = λ settings state entries kept.
-    ([], state, none_notified settings state, kept, sent_none (g.H.Wire.acts c.args.host.now) (g.H.Wire.moment c.args.host.now))
+-- ---- who is due behind it, where no memory was refused
+
+pub returns-clause-all : goal.returns-clause-all
+returns-clause-all g c = λ none.
+    let old : ServerValue = record { settings = c.self.inside.settings; registry = c.self.inside.ledger.registry; journal = c.self.inside.ledger.journal; watch = c.self.inside.watch; lines = c.self.inside.lines } in
+    let watch = c.notify.new.watch in
+    subst (λ (tables : RegistryValue). OnlyUnheardAreDue (views_of tables) watch.sessions watch.observers.observed) c.registry.ensures
+    (c.notify.ensures.all (subst (λ (tables : RegistryValue). AreNotified (views_of tables) old.watch.due old.watch.observers.observed) (sym c.registry.ensures) c.self.invariant.notified)
+    none)

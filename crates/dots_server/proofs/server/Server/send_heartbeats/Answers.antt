@@ -6,6 +6,8 @@ use Rattle.dots_registry.specs.RegistryValues.{time_of}
 use Rattle.dots_machine.specs.Machine.{beating}
 use Rattle.dots_server.specs.ServerValues.{ServerValue, Represents}
 use Rattle.session_core.specs.Beating.{Agrees}
+use Rattle.session_core.specs.Contacts.{number_of}
+use Rattle.dots_notices.proofs.Unheard.{beaten_unheard}
 use Rattle.dots_server.specs.Sessions.{SaysBeat}
 use Rattle.dots_server.proofs.Sessions.{agrees, beaten_lives}
 use Rattle.dots_server.proofs.server.Server.send_heartbeats.Goals as goal
@@ -28,3 +30,12 @@ returns-clause-sent g c = λ settings state represents.
     let sent = c.beat.ensures.sent by (subst (λ tables. Agrees (SaysBeat old.settings tables) by) (sym c.registry-2.ensures) (agrees old settings state here)) in
     subst (λ rows. Added acts acts_new (SentTo moment last (beats by state.time rows))) here.contacts
     (subst (λ t. Added acts acts_new (SentTo moment last (beats by t old.watch.sessions))) (c.time-time.ensures ∙ ap time_of c.registry.ensures ∙ here.time_is) sent)
+
+pub returns-clause-unheard : goal.returns-clause-unheard
+returns-clause-unheard g c = λ peer none.
+    let old : ServerValue = record { settings = c.self.inside.settings; registry = c.self.inside.ledger.registry; journal = c.self.inside.ledger.journal; watch = c.self.inside.watch; lines = c.self.inside.lines } in
+    let serving = c.self.invariant in
+    let by = beating old.settings serving.state in
+    let left = c.beat.ensures.left by (subst (λ tables. Agrees (SaysBeat old.settings tables) by) (sym c.registry-2.ensures) (agrees old old.settings serving.state serving.represents.represents)) in
+    ap (number_of peer) left
+    ∙ beaten_unheard by c.time-time.result peer old.watch.sessions (ap (λ (server : ServerValue). number_of peer server.watch.sessions) c.self.view_is ∙ none)

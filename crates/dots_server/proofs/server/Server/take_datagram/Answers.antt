@@ -126,3 +126,6 @@ returns-clause-done g c = λ settings state entries kept.
 
 pub returns-clause-observers : goal.returns-clause-observers
 returns-clause-observers g c = c.notify.ensures.known
+
+pub returns-clause-all : goal.returns-clause-all
+returns-clause-all g c = c.notify.ensures.all
