@@ -5,4 +5,4 @@ pub mod Fixing
 pub mod Ticking
 pub mod Parting
 mod Quiet
-mod Unheard
+pub mod Unheard
