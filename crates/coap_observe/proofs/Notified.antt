@@ -8,7 +8,7 @@ use Rattle.coap_observe.specs.declared.observer.Observer.{Observer}
 use Rattle.coap_observe.specs.Seen.{Lists, list_for, same_one, same_seen}
 use Rattle.coap_observe.specs.Observed.{ObservedValue, is_token, is_due, notified, registered_again}
 use Rattle.coap_observe.specs.Observing.{entered, registered, has_room, NoneIsDue}
-use Rattle.coap_observe.specs.DueAmong.{is_nobody, includes, includes_one, joined, merged, AreNotified}
+use Rattle.coap_observe.specs.DueAmong.{includes, includes_one, joined, merged, AreNotified}
 
 own_list : (xs : List (ℕ × ℕ)) → same_seen xs xs ≡ true
 own_list [] = refl
@@ -54,11 +54,6 @@ filtered_notified lists among stays (o ∷ os) are = by_test (stays o) refl (fil
     by_test false is rest = subst (AreNotified lists among) (sym (cond-false (stays o) (o ∷ filter stays os) (filter stays os) is)) rest
 
 -- ---- what there is to see changes
-
-pub nobody_is : (among : DueAmong) → is_nobody among ≡ true → among ≡ Nobody
-nobody_is Nobody is = refl
-nobody_is (Domain own) is = absurd (false≢true is)
-nobody_is Anybody is = absurd (false≢true is)
 
 -- anybody may be due
 pub anybody_notified : (lists : Lists) (os : List ObservedValue) → AreNotified lists Anybody os

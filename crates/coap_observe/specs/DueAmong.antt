@@ -5,11 +5,6 @@ use Rattle.coap_observe.specs.declared.due_among.DueAmong.TheVariants.{Nobody, D
 use Rattle.coap_observe.specs.Seen.{Lists}
 use Rattle.coap_observe.specs.Observed.{ObservedValue, is_due}
 
-abbrev pub is_nobody : DueAmong → Bool
-is_nobody Nobody = true
-is_nobody (Domain own) = false
-is_nobody Anybody = false
-
 -- the observers of a domain are among them
 abbrev pub includes : DueAmong → ℕ → Bool
 includes Nobody domain = false

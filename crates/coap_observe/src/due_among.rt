@@ -1,5 +1,5 @@
 ghost use Rattle.std.specs.Prelude.{◌≡◌};
-ghost use Rattle.coap_observe.specs.DueAmong.{is_nobody, includes, joined, merged};
+ghost use Rattle.coap_observe.specs.DueAmong.{includes, joined, merged};
 
 /// Among whom an observer may be due. Only these are looked at where one is looked for.
 #[derive(Clone, Copy, PartialEq, Eq)]
@@ -11,16 +11,6 @@ pub enum DueAmong {
 }
 
 impl DueAmong {
-    /// Whether no observer may be due.
-    pub fn is_nobody(self) -> bool
-        ensures { result ≡ is_nobody self }
-    {
-        match self {
-            DueAmong::Nobody => true,
-            DueAmong::Domain(_) | DueAmong::Anybody => false,
-        }
-    }
-
     /// Whether the observers of this domain are among them.
     pub fn includes(self, domain: u16) -> bool
         ensures { result ≡ includes self domain }
