@@ -8,6 +8,8 @@ use Rattle.coap_message.specs.declared.kind.Kind.{Kind}
 use Rattle.coap_message.specs.declared.kind.Kind.TheVariants.{Con, Non, Ack, Rst}
 use Rattle.coap_message.specs.Message.{CoapOption, CoapMessage, spelling}
 use Rattle.coap_message.specs.Salvage.{salvaged}
+use Rattle.coap_replies.specs.Exchanges.{exchange_in, is_request, rejected, dismissed_unread}
+use Rattle.coap_replies.specs.Replies.{plain}
 use Rattle.dots_heads.specs.declared.reject.Reject.{Reject}
 use Rattle.dots_heads.specs.declared.reject.Reject.TheVariants as reject
 use Rattle.dots_heads.specs.Heads.{refuse_critical, refuse_hop_limit}
@@ -21,11 +23,10 @@ use Rattle.dots_gateway.specs.declared.passed.Passed.TheVariants as passed
 use Rattle.dots_gateway.specs.declared.passed.GatewayFault.TheVariants as fault
 use Rattle.dots_gateway.specs.Exchanges.{ExchangesValue, is_full, is_from, exchange_for}
 use Rattle.dots_gateway.specs.Forwarding.{option_with, option_for, passed_options, forwarded}
-use Rattle.dots_gateway.specs.Gateway.{GatewayValue, Said, Ups, of_no_client, unreadable, asking, rejected, unread, refused, refused_option, came_again, passed_again, passed_first, passed_by, passed_on, wanted_said, asked_said}
+use Rattle.dots_gateway.specs.Gateway.{GatewayValue, Said, Ups, of_no_client, unreadable, asking, dismissed_said, refused, refused_option, came_again, passed_again, passed_first, passed_by, passed_on, wanted_said, asked_said}
 use Rattle.dots_gateway.specs.PassedOn.{IsPassedFor, IsPassedOn}
-use Rattle.dots_gateway.specs.Replies.{plain}
 use Rattle.dots_gateway.specs.Routes.{domain_for}
-use Rattle.dots_gateway.specs.Wanted.{Passage, Wanted, beat, passage, is_request, hop_limit, hop_in, refuse_operation, wanted_at, wanted_of}
+use Rattle.dots_gateway.specs.Wanted.{Passage, Wanted, beat, passage, hop_limit, hop_in, refuse_operation, wanted_at, wanted_of}
 
 -- ---- the options that are passed on
 
@@ -169,7 +170,7 @@ no_reply is = absurd (cc)
 no_silence : {bytes : List ℕ} {fresh : Option Exchange} → ◌≡◌ {A = Said} (Ok passed.Nothing) (Ok (passed.Forward bytes fresh)) → ⊥
 no_silence is = absurd (cc)
 
-pub rejected_none : (peer : ℕ) (kind : Kind) (id : ℕ) (bytes : List ℕ) (fresh : Option Exchange) → rejected peer kind id ≡ Ok (passed.Forward bytes fresh) → ⊥
+pub rejected_none : (peer : ℕ) (kind : Kind) (id : ℕ) (bytes : List ℕ) (fresh : Option Exchange) → dismissed_said peer (rejected kind id) ≡ Ok (passed.Forward bytes fresh) → ⊥
 rejected_none peer Con id bytes fresh is = no_reply is
 rejected_none peer Non id bytes fresh is = no_silence is
 rejected_none peer Ack id bytes fresh is = no_silence is
@@ -193,7 +194,7 @@ refused_none peer m reject.Query bytes fresh is = no_reply is
 refused_none peer m (reject.Body cause) bytes fresh is = no_reply is
 refused_none peer m reject.NoMemory bytes fresh is = no_reply is
 
-unread_none : (peer : ℕ) (o : Option (Kind × ℕ)) (bytes : List ℕ) (fresh : Option Exchange) → unread peer o ≡ Ok (passed.Forward bytes fresh) → ⊥
+unread_none : (peer : ℕ) (o : Option (Kind × ℕ)) (bytes : List ℕ) (fresh : Option Exchange) → dismissed_said peer (dismissed_unread o) ≡ Ok (passed.Forward bytes fresh) → ⊥
 unread_none peer None bytes fresh is = no_silence is
 unread_none peer (Some message) bytes fresh is = rejected_none peer message.0 message.1 bytes fresh is
 
@@ -228,7 +229,7 @@ on_forwards : (e : ExchangesValue) (peer : ℕ) (domain datagram : List ℕ) (m 
     → passed_on e peer domain datagram m p ≡ Ok (passed.Forward bytes fresh) → Forwards e peer domain m p bytes fresh
 on_forwards e peer domain datagram m p bytes fresh is = by_test (p.hop == 1) is
   where
-    by_test : (b : Bool) → cond {A = Said} b (Ok (passed.Reply peer (plain 0xa8 m []))) (passed_by e peer domain datagram m p (find (is_from peer m.identifier) e.waiting)) ≡ Ok (passed.Forward bytes fresh)
+    by_test : (b : Bool) → cond {A = Said} b (Ok (passed.Reply peer (plain 0xa8 (exchange_in m) []))) (passed_by e peer domain datagram m p (find (is_from peer m.identifier) e.waiting)) ≡ Ok (passed.Forward bytes fresh)
         → Forwards e peer domain m p bytes fresh
     by_test true is = absurd (no_reply is)
     by_test false is = found_forwards e peer domain datagram m p (find (is_from peer m.identifier) e.waiting) bytes fresh is
@@ -247,7 +248,7 @@ asked_forwards : (e : ExchangesValue) (peer : ℕ) (domain datagram : List ℕ) 
     → asked_said e peer domain datagram m ≡ Ok (passed.Forward bytes fresh) → Asks e peer domain m bytes fresh
 asked_forwards e peer domain datagram m bytes fresh is = by_test (is_request m) is
   where
-    by_test : (b : Bool) → cond b (wanted_said e peer domain datagram m (wanted_of m)) (rejected peer m.kind m.identifier) ≡ Ok (passed.Forward bytes fresh) → Asks e peer domain m bytes fresh
+    by_test : (b : Bool) → cond b (wanted_said e peer domain datagram m (wanted_of m)) (dismissed_said peer (rejected m.kind m.identifier)) ≡ Ok (passed.Forward bytes fresh) → Asks e peer domain m bytes fresh
     by_test true is = wanted_forwards e peer domain datagram m (wanted_of m) bytes fresh refl is
     by_test false is = absurd (rejected_none peer m.kind m.identifier bytes fresh is)
 

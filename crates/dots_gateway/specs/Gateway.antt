@@ -7,6 +7,10 @@ use Rattle.coap_message.specs.declared.kind.Kind.TheVariants.{Con, Non, Ack, Rst
 use Rattle.coap_message.specs.declared.option_numbers.TheConstants.{URI_PATH}
 use Rattle.coap_message.specs.Message.{CoapMessage, IsMessage, spelling}
 use Rattle.coap_message.specs.Salvage.{salvaged}
+use Rattle.coap_replies.specs.declared.dismissal.Dismissal.{Dismissal}
+use Rattle.coap_replies.specs.declared.dismissal.Dismissal.TheVariants as dismissal
+use Rattle.coap_replies.specs.Exchanges.{exchange_in, may_ask, is_request, rejected, dismissed_unread}
+use Rattle.coap_replies.specs.Replies.{plain, rejection, reset_message}
 use Rattle.dots_heads.specs.declared.reject.Reject.{Reject}
 use Rattle.dots_heads.specs.declared.reject.Reject.TheVariants as reject
 use Rattle.dots_heads.specs.Options.{values_of}
@@ -22,9 +26,8 @@ use Rattle.dots_gateway.specs.declared.passed.GatewayFault.TheVariants as fault
 use Rattle.dots_gateway.specs.declared.routes.Route.{Route}
 use Rattle.dots_gateway.specs.Exchanges.{ExchangesValue, at_time, is_full, exchange_for, with_one, is_from, is_passed, key_for}
 use Rattle.dots_gateway.specs.Forwarding.{forwarded, answered}
-use Rattle.dots_gateway.specs.Replies.{plain, rejection, reset_message}
 use Rattle.dots_gateway.specs.Routes.{domain_for}
-use Rattle.dots_gateway.specs.Wanted.{Passage, Wanted, beat, passage, may_ask, is_request, hop_in, wanted_of}
+use Rattle.dots_gateway.specs.Wanted.{Passage, Wanted, beat, passage, hop_in, wanted_of}
 
 -- the clients with their domains, the peer that is the upstream, and the exchanges
 pub record GatewayValue : Type 0 where
@@ -43,13 +46,9 @@ Said = Result Passed GatewayFault
 -- ---- a client's request
 
 -- what is confirmable and can't be read, or is no request, is reset, and any other is ignored (RFC 7252, sections 4.2 and 4.3)
-abbrev pub rejected : ℕ → Kind → ℕ → Said
-rejected peer Con id = Ok (passed.Reply peer (reset_message id))
-rejected peer _ id = Ok passed.Nothing
-
-abbrev pub unread : ℕ → Option (Kind × ℕ) → Said
-unread peer None = Ok passed.Nothing
-unread peer (Some message) = rejected peer message.0 message.1
+abbrev pub dismissed_said : ℕ → Dismissal → Said
+dismissed_said peer (dismissal.Reset id) = Ok (passed.Reply peer (reset_message id))
+dismissed_said peer _ = Ok passed.Nothing
 
 -- A message with a critical option that isn't recognised is answered where it is confirmable (RFC 7252, section 5.4.1); any other
 -- that is refused is answered.
@@ -58,8 +57,8 @@ refused_option peer Con reply = Ok (passed.Reply peer reply)
 refused_option peer _ reply = Ok passed.Nothing
 
 abbrev pub refused : ℕ → CoapMessage → Reject → Said
-refused peer m (reject.Critical number) = refused_option peer m.kind (rejection m (reject.Critical number))
-refused peer m other = Ok (passed.Reply peer (rejection m other))
+refused peer m (reject.Critical number) = refused_option peer m.kind (rejection (exchange_in m) (reject.Critical number))
+refused peer m other = Ok (passed.Reply peer (rejection (exchange_in m) other))
 
 -- whether two requests have one type and one Message ID
 abbrev pub same_message : MessageKey → MessageKey → Bool
@@ -94,24 +93,24 @@ passed_by e peer domain datagram m p None = passed_first e peer domain m p
 -- A Hop-Limit of 1 would be 0 behind the gateway: 5.08 Hop Limit Reached (RFC 8768, sections 3 and 4).
 abbrev pub passed_on : ExchangesValue → ℕ → List ℕ → List ℕ → CoapMessage → Passage → Said
 passed_on e peer domain datagram m p =
-    if p.hop == 1 then Ok (passed.Reply peer (plain 0xa8 m []))
+    if p.hop == 1 then Ok (passed.Reply peer (plain 0xa8 (exchange_in m) []))
     else passed_by e peer domain datagram m p (find (is_from peer m.identifier) e.waiting)
 
 abbrev pub wanted_said : ExchangesValue → ℕ → List ℕ → List ℕ → CoapMessage → Result Wanted Reject → Said
 wanted_said e peer domain datagram m (Err reject) = refused peer m reject
-wanted_said e peer domain datagram m (Ok beat) = Ok (passed.Reply peer (plain CHANGED m []))
+wanted_said e peer domain datagram m (Ok beat) = Ok (passed.Reply peer (plain CHANGED (exchange_in m) []))
 wanted_said e peer domain datagram m (Ok (passage p)) = passed_on e peer domain datagram m p
 
 abbrev pub asked_said : ExchangesValue → ℕ → List ℕ → List ℕ → CoapMessage → Said
 asked_said e peer domain datagram m =
-    if is_request m then wanted_said e peer domain datagram m (wanted_of m) else rejected peer m.kind m.identifier
+    if is_request m then wanted_said e peer domain datagram m (wanted_of m) else dismissed_said peer (rejected m.kind m.identifier)
 
 -- what is said of a datagram of a peer, by the first of these that applies
 pub data Ups (g : GatewayValue) (peer : ℕ) (datagram : List ℕ) (said : Said) : Type 0 where
   of_no_client : domain_for g.routes g.upstream peer ≡ None → said ≡ Ok passed.Nothing → Ups g peer datagram said
   unreadable : (domain : List ℕ) → domain_for g.routes g.upstream peer ≡ Some domain
       → ((m : CoapMessage) → IsMessage m → datagram ≡ spelling m → ⊥)
-      → said ≡ unread peer (salvaged datagram) → Ups g peer datagram said
+      → said ≡ dismissed_said peer (dismissed_unread (salvaged datagram)) → Ups g peer datagram said
   asking : (domain : List ℕ) (m : CoapMessage) → domain_for g.routes g.upstream peer ≡ Some domain
       → IsMessage m → datagram ≡ spelling m
       → said ≡ asked_said g.exchanges peer domain datagram m → Ups g peer datagram said
@@ -140,7 +139,7 @@ pub record IsBeat (m : CoapMessage) : Type 0 where
   pub path : resource_at (values_of URI_PATH m.options) ≡ Some heartbeat
 
 abbrev pub beat_answer : CoapMessage → List ℕ
-beat_answer m = if hop_in m.options == 0 then rejection m reject.HopLimit else plain CHANGED m []
+beat_answer m = if hop_in m.options == 0 then rejection (exchange_in m) reject.HopLimit else plain CHANGED (exchange_in m) []
 
 -- the answer to the request of an exchange that waits, whatever its type
 abbrev pub answer_to : Option Waiting → CoapMessage → Passed

@@ -5,7 +5,6 @@ pub mod Forwarding
 pub mod Gateway
 pub mod Options
 pub mod PassedOn
-pub mod Replies
 pub mod Routes
 pub mod Steps
 pub mod Wanted

@@ -3,6 +3,8 @@ use Rattle.std.specs.Prelude.{◌≡◌, ℕ, Bool, true, false, List, [], Some,
 use Rattle.coap_message.specs.declared.kind.Kind.{Kind}
 use Rattle.coap_message.specs.declared.kind.Kind.TheVariants.{Con}
 use Rattle.coap_message.specs.Message.{CoapMessage}
+use Rattle.coap_replies.specs.Exchanges.{exchange_in}
+use Rattle.coap_replies.specs.Replies.{plain}
 use Rattle.dots_heads.specs.declared.reject.Reject.{Reject}
 use Rattle.dots_heads.specs.declared.reject.Reject.TheVariants as reject
 use Rattle.dots_lists.specs.declared.memory.NoMemory.{NoMemory}
@@ -11,7 +13,6 @@ use Rattle.dots_gateway.specs.declared.passed.Passed.TheVariants as passed
 use Rattle.dots_gateway.specs.declared.passed.GatewayFault.TheVariants as fault
 use Rattle.dots_gateway.specs.Exchanges.{ExchangesValue, with_one}
 use Rattle.dots_gateway.specs.Gateway.{GatewayValue, Said, Downs, may_lack, takes_memory}
-use Rattle.dots_gateway.specs.Replies.{plain}
 
 -- what a step answered is what is to be said, unless memory ran out
 abbrev pub Gives : Said → Said → Type 0
@@ -30,7 +31,7 @@ IsOld _ = ⊤
 
 -- a reply of a code alone
 abbrev pub replied : ℕ → ℕ → CoapMessage → Said
-replied peer code m = Ok (passed.Reply peer (plain code m []))
+replied peer code m = Ok (passed.Reply peer (plain code (exchange_in m) []))
 
 -- a request that is refused and not answered
 abbrev pub is_ignored : Kind → Reject → Bool

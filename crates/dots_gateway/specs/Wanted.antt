@@ -1,9 +1,7 @@
 -- What a client's message wants of a gateway, with the checks in their order (RFC 7252, section 5.4; RFC 8768, section 3; RFC 9132,
 -- section 4.4).
-use Rattle.std.specs.Prelude.{ℕ, ◌/◌, Bool, true, false, not, ◌&&◌, ◌==◌, if◌then◌else◌, List, Option, Some, None, Result, Ok, Err}
-use Rattle.coap_message.specs.declared.codes.TheConstants.{EMPTY, PUT}
-use Rattle.coap_message.specs.declared.kind.Kind.{Kind}
-use Rattle.coap_message.specs.declared.kind.Kind.TheVariants.{Con, Non, Ack, Rst}
+use Rattle.std.specs.Prelude.{ℕ, false, ◌==◌, if◌then◌else◌, List, Option, Some, None, Result, Ok, Err}
+use Rattle.coap_message.specs.declared.codes.TheConstants.{PUT}
 use Rattle.coap_message.specs.declared.option_numbers.TheConstants.{URI_PATH, HOP_LIMIT}
 use Rattle.coap_message.specs.Message.{CoapOption, CoapMessage}
 use Rattle.dots_heads.specs.declared.reject.Reject.{Reject}
@@ -24,16 +22,6 @@ pub record Passage : Type 0 where
 pub data Wanted : Type 0 where
   beat : Wanted
   passage : Passage → Wanted
-
--- Requests are confirmable or not, and their codes are of the class 0 and not that of an empty message (RFC 7252, section 3).
-abbrev pub may_ask : Kind → Bool
-may_ask Con = true
-may_ask Non = true
-may_ask Ack = false
-may_ask Rst = false
-
-abbrev pub is_request : CoapMessage → Bool
-is_request m = may_ask m.kind && not (m.code == EMPTY) && m.code / 32 == 0
 
 -- a request without a Hop-Limit counts as one with 16 (RFC 8768, section 3)
 abbrev pub hop_limit : Option (List ℕ) → ℕ

@@ -3,8 +3,9 @@
 ghost use Rattle.std.specs.Prelude.{◌≡◌, ◌≢◌, None};
 ghost use Rattle.std.specs.List.{find};
 ghost use Rattle.coap_message.specs.Salvage.{salvaged};
+ghost use Rattle.coap_replies.specs.Exchanges.{dismissed_unread};
 ghost use Rattle.dots_gateway.specs.Exchanges.{is_from};
-ghost use Rattle.dots_gateway.specs.Gateway.{rejected, unread, refused, same_message, came_again, passed_again, passed_first, passed_on, asked_said};
+ghost use Rattle.dots_gateway.specs.Gateway.{dismissed_said, refused, same_message, came_again, passed_again, passed_first, passed_on, asked_said};
 ghost use Rattle.dots_gateway.specs.Steps.{Gives, NowWaits, IsOld, is_ignored, replied};
 ghost use Rattle.dots_gateway.specs.WantedValues.{passage_value, CanPass};
 
@@ -12,10 +13,11 @@ use crate::exchange::{Waiting, key_for};
 use crate::exchanges::Exchanges;
 use crate::forwarding::forwarded;
 use crate::passed::{GatewayFault, HOP_LIMIT_REACHED, Passed};
-use crate::replies::{plain, rejection, reset};
-use crate::wanted::{Passage, Wanted, is_request, read_wanted};
+use crate::replies::{plain_bytes, rejection_bytes, reset_bytes};
+use crate::wanted::{Passage, Wanted, read_wanted};
 use coap_message::codes::CHANGED;
-use coap_message::{Kind, Message, salvage};
+use coap_message::{Kind, Message};
+use coap_replies::{Dismissal, dismissed_unread, is_request, rejected};
 use dots_heads::Reject;
 use dots_history::MessageKey;
 use dots_lists::Name;
@@ -32,13 +34,13 @@ pub struct Asking<'a> {
 }
 
 /// What is confirmable and can't be read, or is no request, is reset; any other is ignored (RFC 7252, sections 4.2 and 4.3).
-fn rejected(alloc: Global, peer: u32, kind: Kind, id: u16) -> Result<Passed, GatewayFault>
-    ensures gives { Gives result (rejected peer kind id) }
+fn dismiss(alloc: Global, peer: u32, dismissal: Dismissal) -> Result<Passed, GatewayFault>
+    ensures gives { Gives result (dismissed_said peer dismissal) }
     ensures old { IsOld result }
 {
-    match kind {
-        Kind::Con => {
-            let bytes = reset(alloc, id)?;
+    match dismissal {
+        Dismissal::Reset { id } => {
+            let bytes = reset_bytes(alloc, id)?;
             Ok(Passed::Reply { to: peer, bytes })
         }
         _ => Ok(Passed::Nothing),
@@ -47,13 +49,10 @@ fn rejected(alloc: Global, peer: u32, kind: Kind, id: u16) -> Result<Passed, Gat
 
 /// What is done with a datagram of a client that is no message.
 pub fn unread(alloc: Global, peer: u32, datagram: &[u8]) -> Result<Passed, GatewayFault>
-    ensures gives { Gives result (unread peer (salvaged datagram.now)) }
+    ensures gives { Gives result (dismissed_said peer (dismissed_unread (salvaged datagram.now))) }
     ensures old { IsOld result }
 {
-    match salvage(datagram) {
-        Some((kind, id)) => rejected(alloc, peer, kind, id),
-        None => Ok(Passed::Nothing),
-    }
+    dismiss(alloc, peer, dismissed_unread(datagram))
 }
 
 /// The answer to a request that is refused. One that isn't confirmable, with a critical option that isn't recognised, is ignored (RFC
@@ -70,7 +69,7 @@ fn refused(
     if is_ignored(message.kind(), reject) {
         return Ok(Passed::Nothing);
     }
-    let bytes = rejection(alloc, message, reject)?;
+    let bytes = rejection_bytes(alloc, message, reject)?;
     Ok(Passed::Reply { to: peer, bytes })
 }
 
@@ -95,7 +94,8 @@ pub fn ask(
 {
     let message = asking.message;
     if !is_request(message) {
-        return rejected(alloc, asking.peer, message.kind(), message.id());
+        let dismissal = rejected(message.kind(), message.id());
+        return dismiss(alloc, asking.peer, dismissal);
     }
     match read_wanted(message) {
         Err(reject) => refused(alloc, asking.peer, message, &reject),
@@ -110,7 +110,7 @@ fn reply(alloc: Global, asking: &Asking<'_>, code: u8) -> Result<Passed, Gateway
     ensures gives { Gives result (replied asking.now.peer code asking.now.message.now) }
     ensures old { IsOld result }
 {
-    let bytes = plain(alloc, asking.message, code, &[])?;
+    let bytes = plain_bytes(alloc, asking.message, code)?;
     Ok(Passed::Reply {
         to: asking.peer,
         bytes,

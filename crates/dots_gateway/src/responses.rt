@@ -7,10 +7,11 @@ ghost use Rattle.dots_gateway.specs.Steps.{Yields, said_to};
 use crate::exchanges::Exchanges;
 use crate::forwarding::answered;
 use crate::passed::Passed;
-use crate::replies::{plain, rejection};
-use crate::wanted::{hop_of, may_ask};
+use crate::replies::{plain_bytes, rejection_bytes};
+use crate::wanted::hop_of;
 use coap_message::codes::{CHANGED, PUT};
 use coap_message::{Kind, Message};
+use coap_replies::may_ask;
 use dots_heads::{Reject, Resource, resource_of};
 use dots_lists::{Bytes, NoMemory};
 use std::alloc::Global;
@@ -42,9 +43,9 @@ fn beat_answer(alloc: Global, message: &Message<'_>) -> Result<Bytes, NoMemory>
     ensures { IfOk result (λ bytes. bytes ≡ beat_answer message.now) }
 {
     if hop_of(message) == 0 {
-        return rejection(alloc, message, &Reject::HopLimit);
+        return rejection_bytes(alloc, message, &Reject::HopLimit);
     }
-    plain(alloc, message, CHANGED, &[])
+    plain_bytes(alloc, message, CHANGED)
 }
 
 fn may_answer(kind: Kind) -> bool

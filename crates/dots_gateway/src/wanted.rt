@@ -4,12 +4,12 @@ ghost use Rattle.std.specs.Prelude.{◌≡◌, ◌≢◌, ℕ, List, Option, Non
 ghost use Rattle.dots_heads.specs.Options.{first_critical, values_of};
 ghost use Rattle.dots_heads.specs.Paths.{mitigation, resource_at};
 ghost use Rattle.dots_heads.specs.Results.{Reads};
-ghost use Rattle.dots_gateway.specs.Wanted.{may_ask, is_request, hop_in, refuse_operation, wanted_of};
+ghost use Rattle.dots_gateway.specs.Wanted.{hop_in, refuse_operation, wanted_of};
 ghost use Rattle.dots_gateway.specs.WantedValues.{wanted_value, IsPassable, operation_refusal};
 
-use coap_message::codes::{EMPTY, PUT};
+use coap_message::Message;
+use coap_message::codes::PUT;
 use coap_message::option_numbers::HOP_LIMIT;
-use coap_message::{Kind, Message};
 use dots_heads::laws::resource_of_a_path;
 use dots_heads::{Reject, Resource, first_critical, read_head, resource_of, value_of};
 
@@ -32,23 +32,6 @@ pub enum Wanted<'a> {
     Beat,
     /// To be passed on.
     Passage(Passage<'a>),
-}
-
-/// Whether the message is a request: confirmable or not, and of the class 0 (RFC 7252, section 3).
-pub fn is_request(message: &Message<'_>) -> bool
-    ensures { result ≡ is_request message.now }
-{
-    may_ask(message.kind()) && message.code() != EMPTY && message.code() / 32 == 0
-}
-
-/// Whether the type is that of a request.
-pub fn may_ask(kind: Kind) -> bool
-    ensures { result ≡ may_ask kind }
-{
-    match kind {
-        Kind::Con | Kind::Non => true,
-        Kind::Ack | Kind::Rst => false,
-    }
 }
 
 /// The Hop-Limit of a request.

@@ -5,7 +5,7 @@ use Rattle.coap_message.proofs.Faults.{breaks_no_message}
 use Rattle.dots_settings.specs.Settings.{SettingsValue}
 use Rattle.dots_settings.specs.Lookups.{role_of}
 use Rattle.dots_keys.specs.declared.request.Request.{Request}
-use Rattle.dots_machine.specs.declared.exchange.Exchange.{Exchange}
+use Rattle.coap_replies.specs.declared.exchange.Exchange.{Exchange}
 use Rattle.dots_machine.specs.declared.received.Received.TheVariants as received
 use Rattle.dots_machine.specs.Requests.{IsReceived, unread, asks_nothing, meant}
 use Rattle.dots_machine.specs.Verdict.{Verdict}

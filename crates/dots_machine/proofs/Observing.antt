@@ -37,9 +37,9 @@ use Rattle.dots_keys.specs.Configurations.{configuration_of}
 use Rattle.dots_keys.specs.Heartbeats.{heartbeat_of}
 use Rattle.dots_heads.specs.Results.{◌>>=◌}
 use Rattle.cbor_profile.specs.Tree.{Tree}
-use Rattle.dots_machine.specs.declared.dismissal.Dismissal.{Dismissal}
-use Rattle.dots_machine.specs.declared.dismissal.Dismissal.TheVariants as dismissal
-use Rattle.dots_machine.specs.declared.exchange.Exchange.{Exchange}
+use Rattle.coap_replies.specs.declared.dismissal.Dismissal.{Dismissal}
+use Rattle.coap_replies.specs.declared.dismissal.Dismissal.TheVariants as dismissal
+use Rattle.coap_replies.specs.declared.exchange.Exchange.{Exchange}
 use Rattle.dots_machine.specs.declared.received.Received.{Received}
 use Rattle.dots_machine.specs.declared.received.Received.TheVariants as received
 use Rattle.dots_machine.specs.declared.watching.Watching.{Watching}
@@ -48,7 +48,7 @@ use Rattle.dots_machine.specs.Verdict.{Verdict}
 use Rattle.dots_machine.specs.declared.verdict.Verdict.TheVariants as verdict
 use Rattle.dots_machine.specs.Replies.{unavailable}
 use Rattle.dots_machine.specs.Domains.{is_gateway, is_stranger, domain_for}
-use Rattle.dots_machine.specs.Exchanges.{exchange_in}
+use Rattle.coap_replies.specs.Exchanges.{exchange_in}
 use Rattle.dots_machine.specs.Requests.{received_as, IsReceived, unread, asks_nothing, meant}
 use Rattle.dots_machine.specs.Observing.{asked_in, in_known, asked_of, asked_by, unless_dismissed, watching_in, Watches, by_message, unreadable, by_stranger, bodies_at, watching_of, code_of, is_retrieved, is_unavailable, observing}
 use Rattle.dots_machine.specs.Machine.{State, seen_in, watched, Notified}

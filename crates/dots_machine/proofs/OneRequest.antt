@@ -18,7 +18,7 @@ use Rattle.dots_heads.specs.Results.{◌>>=◌}
 use Rattle.dots_keys.proofs.OneMeaning.{OneReading, means_once}
 use Rattle.dots_machine.specs.declared.received.Received.{Received}
 use Rattle.dots_machine.specs.declared.received.Received.TheVariants as received
-use Rattle.dots_machine.specs.Exchanges.{exchange_in, dismissed}
+use Rattle.coap_replies.specs.Exchanges.{exchange_in, dismissed}
 use Rattle.dots_machine.specs.Requests.{received_as, IsReceived, unread, asks_nothing, meant}
 
 abbrev result : Result Request Reject → Result Request Reject

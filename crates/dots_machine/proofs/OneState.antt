@@ -18,7 +18,7 @@ use Rattle.dots_machine.specs.Observing.{bodies_at, code_of, is_retrieved, numbe
 use Rattle.dots_machine.specs.Verdict.{Verdict}
 use Rattle.dots_machine.specs.declared.verdict.Verdict.TheVariants as verdict
 use Rattle.dots_machine.specs.Domains.{is_gateway}
-use Rattle.dots_machine.specs.Exchanges.{exchange_in}
+use Rattle.coap_replies.specs.Exchanges.{exchange_in}
 use Rattle.dots_machine.specs.Replies.{unavailable}
 use Rattle.dots_machine.specs.Machine.{State, later, Decides, by_silence, by_rules, for_want_of_memory, sends_of, after, seen_in, watched, Notified, Answers, Ticks, beating, Opens, receiving, Step, facts_in, rules_say}
 use Rattle.dots_machine.proofs.Verdicts.{valued}

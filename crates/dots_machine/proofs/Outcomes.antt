@@ -22,9 +22,9 @@ use Rattle.conflict_rules.specs.declared.fault.PutFault.{PutFault}
 use Rattle.conflict_rules.specs.declared.fault.PutFault.TheVariants as faults
 use Rattle.conflict_rules.specs.declared.judging.Judged.{Judged}
 use Rattle.target_rules.specs.declared.target.TargetFault.{TargetFault}
-use Rattle.dots_machine.specs.declared.exchange.Exchange.{Exchange}
-use Rattle.dots_machine.specs.declared.dismissal.Dismissal.{Dismissal}
-use Rattle.dots_machine.specs.declared.dismissal.Dismissal.TheVariants as dismissal
+use Rattle.coap_replies.specs.declared.exchange.Exchange.{Exchange}
+use Rattle.coap_replies.specs.declared.dismissal.Dismissal.{Dismissal}
+use Rattle.coap_replies.specs.declared.dismissal.Dismissal.TheVariants as dismissal
 use Rattle.dots_machine.specs.declared.received.Received.{Received}
 use Rattle.dots_machine.specs.declared.received.Received.TheVariants as received
 use Rattle.dots_machine.specs.declared.client_request.ClientRequest.{ClientRequest}
@@ -33,7 +33,8 @@ use Rattle.dots_machine.specs.Verdict.{Verdict}
 use Rattle.dots_machine.specs.declared.verdict.Verdict.TheVariants as verdict
 use Rattle.dots_machine.specs.Domains.{domain_for, config_domain}
 use Rattle.target_rules.specs.Targets.{scope_fault}
-use Rattle.dots_machine.specs.Replies.{grant_code, rejection, configuration_reply, absent}
+use Rattle.coap_replies.specs.Replies.{rejection}
+use Rattle.dots_machine.specs.Replies.{grant_code, configuration_reply, absent}
 use Rattle.dots_machine.specs.MessageRepeats.{sent_for, unless_repeated}
 use Rattle.dots_machine.specs.Observing.{code_of}
 use Rattle.dots_machine.specs.Mitigations.{sent_by, request_of, refusal, judged, get_reply, unless_faulty, put_answer, is_taken, delete_by, delete_answer, get_by, get_answer, client_for}

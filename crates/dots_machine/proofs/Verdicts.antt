@@ -26,7 +26,7 @@ use Rattle.conflict_rules.specs.Judgements.{IsTaken, HasMid}
 use Rattle.conflict_rules.specs.Statuses.{status_by, works_for, view_with, is_standing}
 use Rattle.conflict_rules.proofs.Rules.{collides_taken, taken_collides, mid_stands, there_mid}
 use Rattle.conflict_rules.proofs.JudgedByPlaces.{judged_by_places, places_judge}
-use Rattle.dots_machine.specs.declared.exchange.Exchange.{Exchange}
+use Rattle.coap_replies.specs.declared.exchange.Exchange.{Exchange}
 use Rattle.dots_machine.specs.declared.received.Received.{Received}
 use Rattle.dots_machine.specs.declared.received.Received.TheVariants as received
 use Rattle.dots_machine.specs.declared.client_request.ClientRequest.{ClientRequest}

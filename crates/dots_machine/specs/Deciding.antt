@@ -15,7 +15,7 @@ use Rattle.dots_history.specs.declared.change.Change.TheVariants as change
 use Rattle.session_core.specs.declared.negotiating.ConfigFault.{ConfigFault}
 use Rattle.session_core.specs.declared.negotiating.ConfigFault.TheVariants.{Range, OlderSid}
 use Rattle.session_core.specs.Negotiating.{negotiated}
-use Rattle.dots_machine.specs.declared.exchange.Exchange.{Exchange}
+use Rattle.coap_replies.specs.declared.exchange.Exchange.{Exchange}
 use Rattle.dots_machine.specs.declared.client_request.ClientRequest.{ClientRequest}
 use Rattle.dots_machine.specs.Verdict.{Verdict}
 use Rattle.dots_machine.specs.declared.verdict.Verdict.TheVariants as verdict

@@ -1,5 +1,4 @@
 pub mod Domains
-pub mod Exchanges
 pub mod Requests
 pub mod Replies
 pub mod Verdict

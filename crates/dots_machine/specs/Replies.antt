@@ -1,17 +1,13 @@
 -- The replies: messages with the Message ID and the token of the request (RFC 7252, section 5.2; RFC 9132, section 4.4).
-use Rattle.std.specs.Prelude.{ℕ, ◌/◌, ◌%◌, Bool, true, false, List, [], ◌∷◌, ◌++◌, codes, decimal, map, Option, Some, None}
+use Rattle.std.specs.Prelude.{ℕ, Bool, true, false, List, [], ◌∷◌, ◌++◌, codes, decimal, map, Option, Some, None}
 use Rattle.cbor_profile.specs.Canon.{canon}
 use Rattle.cbor_profile.specs.Tree.{Tree, unsigned}
-use Rattle.coap_message.specs.declared.codes.TheConstants.{EMPTY, CREATED, DELETED, CHANGED, CONTENT, BAD_REQUEST, NOT_FOUND, CONFLICT, UNPROCESSABLE_ENTITY, INTERNAL_SERVER_ERROR, SERVICE_UNAVAILABLE}
-use Rattle.coap_message.specs.declared.option_numbers.TheConstants.{CONTENT_FORMAT}
-use Rattle.coap_message.specs.declared.TheConstants.{DOTS_CBOR}
-use Rattle.coap_message.specs.declared.kind.Kind.TheVariants.{Rst}
+use Rattle.coap_message.specs.declared.codes.TheConstants.{CREATED, DELETED, CHANGED, CONTENT, BAD_REQUEST, NOT_FOUND, CONFLICT, UNPROCESSABLE_ENTITY, INTERNAL_SERVER_ERROR, SERVICE_UNAVAILABLE}
 use Rattle.coap_message.specs.Message.{CoapOption, spelling}
 use Rattle.dots_heads.specs.declared.reject.Reject.{Reject}
 use Rattle.dots_heads.specs.declared.reject.Reject.TheVariants as reject
 use Rattle.dots_heads.specs.declared.request.Content.{Content}
 use Rattle.dots_heads.specs.declared.request.Content.TheVariants.{Config, State}
-use Rattle.dots_heads.specs.RejectText.{reject_text, reject_code}
 use Rattle.reply_bodies.specs.declared.conflict.ConflictCause.{ConflictCause}
 use Rattle.reply_bodies.specs.declared.keys.TheConstants.{MID, LIFETIME, MITIGATION_START, STATUS}
 use Rattle.reply_bodies.specs.declared.reply.Reply.TheVariants as reply
@@ -25,40 +21,11 @@ use Rattle.reply_bodies.specs.declared.session.Current.{Current}
 use Rattle.reply_bodies.specs.declared.session.SessionView.{SessionView}
 use Rattle.target_rules.specs.declared.target.TargetFault.{TargetFault}
 use Rattle.dots_notices.specs.Notices.{observe}
-use Rattle.dots_machine.specs.declared.exchange.Exchange.{Exchange}
+use Rattle.coap_replies.specs.declared.exchange.Exchange.{Exchange}
 use Rattle.target_rules.specs.Targets.{target_text}
-use Rattle.dots_machine.specs.Exchanges.{reply_kind}
+use Rattle.coap_replies.specs.Exchanges.{reply_kind}
+use Rattle.coap_replies.specs.Replies.{plain, dots_cbor, with_body, rejection}
 use Rattle.dots_machine.specs.Sessions.{Configured, sid_of, config_in}
-
--- a reply without options, whose payload is a text that says why, or empty (section 5.5.2: a diagnostic payload)
-abbrev pub plain : ℕ → Exchange → List ℕ → List ℕ
-plain code exchange text = spelling (record {
-  kind = reply_kind exchange.kind;
-  code = code;
-  identifier = exchange.id;
-  token = exchange.token;
-  options = [];
-  payload = text;
-})
-
--- an empty reset (section 4.2)
-abbrev pub reset_message : ℕ → List ℕ
-reset_message id = spelling (record { kind = Rst; code = EMPTY; identifier = id; token = []; options = []; payload = [] })
-
--- Content-Format application/dots+cbor, whose number is a value of two bytes
-abbrev pub dots_cbor : CoapOption
-dots_cbor = record { number = CONTENT_FORMAT; value = DOTS_CBOR / 256 ∷ DOTS_CBOR % 256 ∷ [] }
-
--- a reply with a body
-abbrev pub with_body : ℕ → Exchange → List ℕ → List ℕ
-with_body code exchange body = spelling (record {
-  kind = reply_kind exchange.kind;
-  code = code;
-  identifier = exchange.id;
-  token = exchange.token;
-  options = dots_cbor ∷ [];
-  payload = body;
-})
 
 -- 2.04 Changed where a mitigation that stands is refreshed, and else 2.01 Created (section 4.4.1.3)
 abbrev pub grant_code : Bool → ℕ
@@ -114,10 +81,6 @@ showing exchange number body = spelling (record {
 -- 4.04 Not Found, where there is none
 abbrev pub absent : Exchange → List ℕ
 absent exchange = plain NOT_FOUND exchange (codes "absent")
-
--- the refusal of a message
-abbrev pub rejection : Exchange → Reject → List ℕ
-rejection exchange reject = plain (reject_code reject) exchange (reject_text reject)
 
 -- 4.00 Bad Request, for a parameter that is missing, for a domain that there isn't, for what may not be asked for in a domain, and
 -- for a request that can't be granted, with the cause as its text

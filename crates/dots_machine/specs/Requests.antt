@@ -7,11 +7,11 @@ use Rattle.coap_message.specs.Salvage.{salvaged}
 use Rattle.dots_heads.specs.declared.reject.Reject.{Reject}
 use Rattle.dots_keys.specs.declared.request.Request.{Request}
 use Rattle.dots_keys.specs.Meaning.{Means}
-use Rattle.dots_machine.specs.declared.dismissal.Dismissal.{Dismissal}
-use Rattle.dots_machine.specs.declared.exchange.Exchange.{Exchange}
+use Rattle.coap_replies.specs.declared.dismissal.Dismissal.{Dismissal}
+use Rattle.coap_replies.specs.declared.exchange.Exchange.{Exchange}
 use Rattle.dots_machine.specs.declared.received.Received.{Received}
 use Rattle.dots_machine.specs.declared.received.Received.TheVariants as received
-use Rattle.dots_machine.specs.Exchanges.{exchange_in, dismissed, dismissed_unread}
+use Rattle.coap_replies.specs.Exchanges.{exchange_in, dismissed, dismissed_unread}
 
 -- a message that asks something, by what it means
 abbrev pub received_as : Exchange → Result Request Reject → Received

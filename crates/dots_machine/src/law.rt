@@ -35,7 +35,7 @@ ghost use Rattle.dots_machine.specs.Adding.{AddsExactly};
 ghost use Rattle.dots_machine.specs.RepeatAnswers.{IsRepeated, AnswersRepeats};
 ghost use Rattle.dots_machine.specs.Isolation.{IsIsolated};
 ghost use Rattle.dots_machine.specs.Orderly.{IsOrderly};
-ghost use Rattle.dots_machine.specs.declared.exchange.Exchange.{Exchange};
+ghost use Rattle.coap_replies.specs.declared.exchange.Exchange.{Exchange};
 ghost use Rattle.dots_machine.specs.declared.received.Received.TheVariants as received;
 ghost use Rattle.dots_machine.specs.Verdict.{Verdict};
 ghost use Rattle.dots_machine.specs.declared.verdict.Verdict.TheVariants as verdict;

@@ -1,8 +1,8 @@
 //! What the machine does, as definitions: for which domain a peer may ask, what a datagram is, what is decided, what is
 //! reported, what the words of the command line ask for, and how a run ends.
 //!
-//! The definitions are in `specs/`, one file for each: `Domains`, `Exchanges` (what is dismissed at once),
-//! `Requests` (what a datagram is), `Replies`, `MessageRepeats` (which messages are repeats, and what they are answered), `Facts` (what is
+//! The definitions are in `specs/`, one file for each: `Domains`, `Requests` (what a datagram is), `Replies`, `MessageRepeats` (which
+//! messages are repeats, and what they are answered), `Facts` (what is
 //! known of a history, by the places of its entries), `Sessions` (what a peer has configured, and what its heartbeats go by), `Mitigations` (what is decided on requests for them by the facts), `Deciding` (and on
 //! any request), `Machine` (the state, verdicts and a step), `RepeatRule` (which requests come to the rule on repeats), `Apart` (how
 //! domains stay apart), `Handlings` (a run by what becomes of its events), `Adding` (when an entry is added), `Isolation` (what becomes of a domain over a run),
@@ -14,27 +14,21 @@
 #![tactic(auto)]
 
 mod client_request;
-mod dismissal;
 mod ending;
-mod exchange;
 mod law;
 mod mitigation_request;
 mod received;
-mod short_message;
 mod verdict;
 mod watching;
 
 pub use client_request::ClientRequest;
-pub use dismissal::Dismissal;
 pub use ending::{Ending, Printing, Stop};
-pub use exchange::Exchange;
 pub use law::{
     domains_are_isolated, domains_stay_apart, entries_are_accepted, mitigations_stand_apart,
     one_answer, one_state, repeats_are_answered, runs_go_on,
 };
 pub use mitigation_request::MitigationRequest;
 pub use received::Received;
-pub use short_message::{MAX_SHORT, ShortMessage};
 pub use target_rules::{TargetFault, scope_fault};
 pub use verdict::Verdict;
 pub use watching::Watching;

@@ -1,5 +1,4 @@
-use crate::dismissal::Dismissal;
-use crate::exchange::Exchange;
+use coap_replies::{Dismissal, Exchange};
 use dots_heads::Reject;
 use dots_keys::Request;
 

@@ -3,10 +3,10 @@ use Rattle.std.specs.Prelude.{◌≡◌, ℕ, Bool, List, None, IsOk, ⊤}
 use Rattle.coap_message.specs.Message.{CoapMessage, IsMessage, spelling}
 use Rattle.dots_heads.specs.Heads.{head_of}
 use Rattle.dots_keys.specs.Askable.{IsAskable}
-use Rattle.dots_machine.specs.declared.exchange.Exchange.{Exchange}
+use Rattle.coap_replies.specs.declared.exchange.Exchange.{Exchange}
 use Rattle.dots_machine.specs.declared.received.Received.{Received}
 use Rattle.dots_machine.specs.declared.received.Received.TheVariants as received
-use Rattle.dots_machine.specs.Exchanges.{exchange_in, dismissed}
+use Rattle.coap_replies.specs.Exchanges.{exchange_in, dismissed}
 
 -- the datagram is a message of this exchange, in which all that stands before the body is right
 pub record Lacks (datagram : List ℕ) (gateway : Bool) (exchange : Exchange) : Type 0 where

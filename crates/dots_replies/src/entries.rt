@@ -6,9 +6,10 @@ ghost use Rattle.dots_machine.specs.Mitigations.{key_of, entry_of};
 ghost use Rattle.dots_machine.specs.Deciding.{config_entry};
 
 use coap_message::Kind;
+use coap_replies::{Exchange, ShortMessage};
 use dots_history::{Change, Entry, MessageKey};
 use dots_lists::{Bytes, Name, NoMemory, Text};
-use dots_machine::{ClientRequest, Exchange, ShortMessage};
+use dots_machine::ClientRequest;
 use std::alloc::Global;
 
 /// What is kept of a change that is accepted at this time, in seconds, with the client's name and the reply.

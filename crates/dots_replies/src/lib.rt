@@ -3,7 +3,6 @@
 #![tactic(auto)]
 
 mod configurations;
-mod dismissing;
 mod entries;
 mod long_replies;
 mod receiving;
@@ -15,5 +14,5 @@ pub use long_replies::{configuration_reply, conflicting, showing, retrieved_body
 pub use receiving::receive;
 pub use replies::{
     absent, at_capacity, bad_parameter, bad_request, bad_target, configuring, deleted, granting,
-    heartbeat_reply, older_sid, out_of_range, rejection, reset, unavailable,
+    heartbeat_reply, older_sid, out_of_range, unavailable,
 };

@@ -1,7 +1,8 @@
 //! Replies with a body of any length.
 
 ghost use Rattle.std.specs.Prelude.{◌≡◌, ◌≢◌, IfOk, option_map};
-ghost use Rattle.dots_machine.specs.Replies.{with_body, conflicting, configuration_reply, showing};
+ghost use Rattle.coap_replies.specs.Replies.{with_body};
+ghost use Rattle.dots_machine.specs.Replies.{conflicting, configuration_reply, showing};
 ghost use Rattle.reply_bodies.specs.Mitigations.{views_tree};
 ghost use Rattle.cbor_profile.specs.Canon.{canon};
 
@@ -9,9 +10,9 @@ use crate::configurations::session_view;
 use coap_message::codes::{CONFLICT, CONTENT};
 use coap_message::option_numbers::CONTENT_FORMAT;
 use coap_message::{DOTS_CBOR, OptionPart, Parts, encode_into, encoded_len};
+use coap_replies::Exchange;
 use dots_history::Config;
 use dots_lists::{Bytes, NoMemory};
-use dots_machine::Exchange;
 use dots_notices::{Front, numbered_content};
 use reply_bodies::{Conflict, ConflictCause, Reply, ViewList, body_of};
 use std::alloc::Global;

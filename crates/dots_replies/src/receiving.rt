@@ -5,11 +5,11 @@ ghost use Rattle.coap_message.specs.Message.{IsMessage, spelling};
 ghost use Rattle.dots_machine.specs.Requests.{IsReceived};
 ghost use Rattle.dots_replies.specs.Receiving.{IsGrantable, Lacks};
 
-use crate::dismissing::{dismissed, dismissed_unread};
 use coap_message::{Message, decode};
+use coap_replies::{Exchange, dismissed, dismissed_unread};
 use dots_heads::Reject;
 use dots_keys::read_request;
-use dots_machine::{Exchange, Received};
+use dots_machine::Received;
 use std::alloc::Global;
 
 /// What the datagram of a gateway, or of a client, is. For want of memory the exchange of the message is answered.

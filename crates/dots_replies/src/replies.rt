@@ -1,77 +1,20 @@
 //! The replies.
 
 ghost use Rattle.std.specs.Prelude.{◌≡◌, ◌≢◌, ◌≤◌, length, IfOk};
-ghost use Rattle.dots_machine.specs.Replies.{reset_message, plain, with_body, granting, grant_code, deleted, absent, bad_request, at_capacity, rejection, bad_parameter, unavailable, bad_target, configuring, older_sid, out_of_range, heartbeat_reply};
+ghost use Rattle.dots_machine.specs.Replies.{granting, grant_code, deleted, absent, bad_request, at_capacity, bad_parameter, unavailable, bad_target, configuring, older_sid, out_of_range, heartbeat_reply};
 
 use coap_message::codes::{
-    BAD_REQUEST, CHANGED, CONFLICT, CREATED, DELETED, EMPTY, INTERNAL_SERVER_ERROR, NOT_FOUND,
+    BAD_REQUEST, CHANGED, CONFLICT, CREATED, DELETED, INTERNAL_SERVER_ERROR, NOT_FOUND,
     SERVICE_UNAVAILABLE, UNPROCESSABLE_ENTITY,
 };
-use coap_message::option_numbers::CONTENT_FORMAT;
-use coap_message::{DOTS_CBOR, Kind, OptionPart, Parts};
+use coap_replies::{Exchange, ShortMessage, plain, rejection, with_body};
 use conflict_rules::Judged;
 use dots_heads::{MAX_TEXT, Reject};
 use dots_lists::NoMemory;
-use dots_machine::{Exchange, ShortMessage, TargetFault};
+use dots_machine::TargetFault;
 use itoa::Buffer;
 use reply_bodies::{Reply, body_of};
 use std::alloc::Global;
-
-/// The most bytes of the body of a short reply.
-const MAX_BODY: usize = 40;
-
-/// A reply without options, with a text that says why it isn't what was asked for, or an empty one (RFC 7252, section
-/// 5.5.2).
-fn plain(code: u8, exchange: &Exchange, text: &[u8]) -> ShortMessage
-    requires code { code ≢ 0 }
-    requires text { length text.now ≤ 28 }
-    ensures { result ≡ plain code exchange.now text.now }
-{
-    ShortMessage::encode(&Parts {
-        kind: exchange.reply_kind(),
-        code,
-        id: exchange.id,
-        token: exchange.token.bytes(),
-        options: &[],
-        values: &[],
-        payload: text,
-    })
-}
-
-/// An empty reset (RFC 7252, section 4.2).
-pub fn reset(id: u16) -> ShortMessage
-    ensures { result ≡ reset_message id }
-{
-    ShortMessage::encode(&Parts {
-        kind: Kind::Rst,
-        code: EMPTY,
-        id,
-        token: &[],
-        options: &[],
-        values: &[],
-        payload: &[],
-    })
-}
-
-/// A reply with a body of CBOR.
-fn with_body(code: u8, exchange: &Exchange, body: &[u8]) -> ShortMessage
-    requires code { code ≢ 0 }
-    requires body { length body.now ≤ MAX_BODY }
-    ensures { result ≡ with_body code exchange.now body.now }
-{
-    ShortMessage::encode(&Parts {
-        kind: exchange.reply_kind(),
-        code,
-        id: exchange.id,
-        token: exchange.token.bytes(),
-        options: &[OptionPart {
-            number: CONTENT_FORMAT,
-            length: 2,
-        }],
-        values: &[(DOTS_CBOR / 256) as u8, (DOTS_CBOR % 256) as u8],
-        payload: body,
-    })
-}
 
 /// 2.04 where a mitigation that stands is refreshed, else 2.01; with the mid and the granted lifetime in seconds, -1 for an
 /// indefinite one (RFC 9132, section 4.4.1.3).
@@ -179,13 +122,4 @@ pub fn bad_parameter(exchange: &Exchange) -> ShortMessage
     ensures { result ≡ bad_parameter exchange.now }
 {
     rejection(exchange, &Reject::Parameter)
-}
-
-/// The refusal of a message, by its cause.
-pub fn rejection(exchange: &Exchange, reject: &Reject) -> ShortMessage
-    ensures { result ≡ rejection exchange.now reject.now }
-{
-    let mut text = [0; MAX_TEXT];
-    let len = reject.put_text(&mut text);
-    plain(reject.code(), exchange, &text[..len])
 }

@@ -30,14 +30,14 @@ use Rattle.dots_heads.specs.Paths.{Resource, resource_at}
 use Rattle.dots_heads.specs.declared.operation.Method.{Method}
 use Rattle.dots_settings.specs.Settings.{SettingsValue}
 use Rattle.dots_settings.specs.Lookups.{role_of}
-use Rattle.dots_machine.specs.declared.dismissal.Dismissal.{Dismissal}
-use Rattle.dots_machine.specs.declared.dismissal.Dismissal.TheVariants as dismissal
-use Rattle.dots_machine.specs.declared.exchange.Exchange.{Exchange}
+use Rattle.coap_replies.specs.declared.dismissal.Dismissal.{Dismissal}
+use Rattle.coap_replies.specs.declared.dismissal.Dismissal.TheVariants as dismissal
+use Rattle.coap_replies.specs.declared.exchange.Exchange.{Exchange}
 use Rattle.dots_machine.specs.declared.watching.Watching.{Watching}
 use Rattle.dots_machine.specs.declared.watching.Watching.TheVariants as watching
 use Rattle.dots_machine.specs.Verdict.{Verdict}
 use Rattle.dots_machine.specs.Domains.{is_gateway, domain_for}
-use Rattle.dots_machine.specs.Exchanges.{exchange_in, dismissed}
+use Rattle.coap_replies.specs.Exchanges.{exchange_in, dismissed}
 use Rattle.dots_machine.specs.Observing.{bodies_at, asked_in, in_known, asked_of, asked_by, unless_dismissed, watching_in, Watches, by_message, unreadable, by_stranger, is_unavailable, observing}
 use Rattle.dots_machine.specs.Answering.{IsHandedIn}
 use Rattle.dots_machine.specs.Replies.{unavailable as refused}

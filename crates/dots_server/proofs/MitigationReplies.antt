@@ -6,7 +6,7 @@ use Rattle.dots_heads.specs.declared.request.Content.{Content}
 use Rattle.conflict_rules.specs.LiveViews.{LiveView}
 use Rattle.reply_bodies.specs.declared.scope.MitigationView.{MitigationView}
 use Rattle.reply_bodies.specs.Mitigations.{scope_of, mitigations_with}
-use Rattle.dots_machine.specs.declared.exchange.Exchange.{Exchange}
+use Rattle.coap_replies.specs.declared.exchange.Exchange.{Exchange}
 use Rattle.dots_machine.specs.declared.verdict.Verdict.TheVariants as verdict
 use Rattle.dots_machine.specs.Replies.{mitigation_fields, absent}
 use Rattle.dots_machine.specs.Mitigations.{is_wanted, get_reply}

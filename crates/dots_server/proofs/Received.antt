@@ -6,15 +6,15 @@ use Rattle.dots_keys.specs.declared.request.Request.{Request}
 use Rattle.dots_heads.specs.Heads.{Head, head_of}
 use Rattle.dots_keys.specs.Meaning.{ReadsAs, Means}
 use Rattle.dots_settings.specs.Settings.{SettingsValue}
-use Rattle.dots_machine.specs.declared.exchange.Exchange.{Exchange}
-use Rattle.dots_machine.specs.declared.dismissal.Dismissal.{Dismissal}
+use Rattle.coap_replies.specs.declared.exchange.Exchange.{Exchange}
+use Rattle.coap_replies.specs.declared.dismissal.Dismissal.{Dismissal}
 use Rattle.dots_machine.specs.declared.received.Received.{Received}
 use Rattle.dots_machine.specs.declared.received.Received.TheVariants as received
 use Rattle.dots_machine.specs.Verdict.{Verdict}
 use Rattle.dots_machine.specs.declared.verdict.Verdict.TheVariants as verdict
 use Rattle.dots_settings.specs.Lookups.{role_of}
 use Rattle.dots_machine.specs.Domains.{is_gateway, is_stranger}
-use Rattle.dots_machine.specs.Exchanges.{exchange_in}
+use Rattle.coap_replies.specs.Exchanges.{exchange_in}
 use Rattle.dots_machine.specs.Requests.{received_as, IsReceived, unread, asks_nothing, meant}
 use Rattle.dots_machine.specs.Replies.{unavailable}
 use Rattle.dots_machine.specs.Machine.{State, Decides, by_rules, for_want_of_memory}

@@ -34,10 +34,10 @@ use Rattle.dots_registry.specs.RegistryValues.{RegistryValue, time_of}
 use Rattle.dots_registry.specs.RegistryValues as registry
 use Rattle.dots_registry.specs.Limits.{ClientsKeepLimits}
 use Rattle.dots_registry.proofs.Configured.{own_configured, bounded_configured, fits_configured, configured_alone}
-use Rattle.dots_machine.specs.declared.exchange.Exchange.{Exchange}
+use Rattle.coap_replies.specs.declared.exchange.Exchange.{Exchange}
 use Rattle.dots_machine.specs.declared.received.Received.{Received}
 use Rattle.dots_settings.specs.Lookups.{no_domain}
-use Rattle.dots_machine.specs.Exchanges.{exchange_in}
+use Rattle.coap_replies.specs.Exchanges.{exchange_in}
 use Rattle.dots_machine.specs.Domains.{config_domain, is_stranger}
 use Rattle.dots_machine.specs.Requests.{IsReceived, received_as, unread, asks_nothing, meant}
 use Rattle.held_resources.specs.Tables.{config_now}

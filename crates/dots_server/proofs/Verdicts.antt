@@ -20,7 +20,7 @@ use Rattle.dots_registry.specs.RegistryValues.{time_of, number_remembered}
 use Rattle.dots_registry.specs.RegistryValues as registry
 use Rattle.conflict_rules.specs.ByHistory.{judge_request}
 use Rattle.target_rules.specs.declared.target.TargetFault.{TargetFault}
-use Rattle.dots_machine.specs.declared.exchange.Exchange.{Exchange}
+use Rattle.coap_replies.specs.declared.exchange.Exchange.{Exchange}
 use Rattle.dots_machine.specs.declared.mitigation_request.MitigationRequest.{MitigationRequest}
 use Rattle.dots_machine.specs.Verdict.{Verdict}
 use Rattle.dots_machine.specs.declared.verdict.Verdict.TheVariants as verdict

@@ -27,9 +27,9 @@ use Rattle.held_resources.specs.Tables.{lost_in}
 use Rattle.live_mitigations.specs.LiveValues.{rows_for}
 use Rattle.live_mitigations.proofs.Room.{rows_are_live, views_are}
 use Rattle.dots_machine.specs.declared.client_request.ClientRequest.{ClientRequest}
-use Rattle.dots_machine.specs.declared.dismissal.Dismissal.{Dismissal}
-use Rattle.dots_machine.specs.declared.dismissal.Dismissal.TheVariants as dismissal
-use Rattle.dots_machine.specs.declared.exchange.Exchange.{Exchange}
+use Rattle.coap_replies.specs.declared.dismissal.Dismissal.{Dismissal}
+use Rattle.coap_replies.specs.declared.dismissal.Dismissal.TheVariants as dismissal
+use Rattle.coap_replies.specs.declared.exchange.Exchange.{Exchange}
 use Rattle.dots_machine.specs.declared.received.Received.TheVariants as received
 use Rattle.dots_machine.specs.declared.watching.Watching.TheVariants as watching
 use Rattle.dots_machine.specs.Verdict.{Verdict}

@@ -21,9 +21,9 @@ use Rattle.dots_registry.specs.RegistryValues.{RegistryValue, time_of, domains_o
 use Rattle.dots_registry.specs.RegistryValues as registry
 use Rattle.dots_registry.specs.ObserverViews.{views_among}
 use Rattle.dots_machine.specs.declared.client_request.ClientRequest.{ClientRequest}
-use Rattle.dots_machine.specs.declared.exchange.Exchange.{Exchange}
-use Rattle.dots_machine.specs.declared.dismissal.Dismissal.{Dismissal}
-use Rattle.dots_machine.specs.declared.dismissal.Dismissal.TheVariants as dismissal
+use Rattle.coap_replies.specs.declared.exchange.Exchange.{Exchange}
+use Rattle.coap_replies.specs.declared.dismissal.Dismissal.{Dismissal}
+use Rattle.coap_replies.specs.declared.dismissal.Dismissal.TheVariants as dismissal
 use Rattle.dots_machine.specs.declared.watching.Watching.{Watching}
 use Rattle.dots_machine.specs.declared.watching.Watching.TheVariants as watching
 use Rattle.dots_machine.specs.Verdict.{Verdict}

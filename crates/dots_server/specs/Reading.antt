@@ -1,6 +1,6 @@
 -- What is decided on a request to read mitigations.
 use Rattle.std.specs.Prelude.{⊤}
-use Rattle.dots_machine.specs.declared.exchange.Exchange.{Exchange}
+use Rattle.coap_replies.specs.declared.exchange.Exchange.{Exchange}
 use Rattle.dots_machine.specs.Verdict.{Verdict}
 use Rattle.dots_machine.specs.declared.verdict.Verdict.TheVariants as verdict
 use Rattle.dots_server.specs.declared.mitigations.Reading.{Reading}

@@ -20,10 +20,10 @@ ghost use Rattle.dots_server.specs.ServerValues.{Represents, CanCarryOut};
 
 use crate::server::Server;
 use crate::verdict::Verdict;
+use coap_replies::{Exchange, ShortMessage};
 use dots_history::{Change, Config};
 use dots_keys::ConfigBody;
 use dots_lists::NoMemory;
-use dots_machine::{Exchange, ShortMessage};
 use dots_replies::{
     absent, configuration_reply, configuring, deleted, older_sid, out_of_range, config_entry,
 };

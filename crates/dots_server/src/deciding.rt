@@ -24,13 +24,12 @@ use crate::server::Server;
 use crate::verdict::Verdict;
 use coap_message::Kind;
 use coap_observe::Observer;
+use coap_replies::{Dismissal, Exchange, rejection, reset};
 use dots_heads::{Content, MitigationPath, Observe, Reject};
 use dots_keys::{MitigationBody, Request};
 use dots_lists::{Bytes, Name, NoMemory};
-use dots_machine::{ClientRequest, Dismissal, Exchange, MitigationRequest, Received, Watching};
-use dots_replies::{
-    bad_parameter, heartbeat_reply, receive, rejection, reset, showing, unavailable,
-};
+use dots_machine::{ClientRequest, MitigationRequest, Received, Watching};
+use dots_replies::{bad_parameter, heartbeat_reply, receive, showing, unavailable};
 use dots_settings::Role;
 
 /// What is to be done.

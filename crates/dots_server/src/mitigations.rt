@@ -27,10 +27,11 @@ ghost use Rattle.dots_server.specs.Reading.{read_as, CanAnswer};
 
 use crate::server::Server;
 use crate::verdict::Verdict;
+use coap_replies::{Exchange, ShortMessage};
 use conflict_rules::{Judged, PutFault, PutRequest};
 use dots_history::{Change, Entry};
 use dots_lists::{Bytes, List, Name, NoMemory};
-use dots_machine::{ClientRequest, Exchange, MitigationRequest, ShortMessage, scope_fault};
+use dots_machine::{ClientRequest, MitigationRequest, scope_fault};
 use dots_registry::Registry;
 use dots_replies::{
     absent, at_capacity, bad_request, bad_target, conflicting, copies, deleted, entry_of, granting,

@@ -7,7 +7,7 @@ ghost use Rattle.dots_machine.specs.Machine.{State, facts_in};
 ghost use Rattle.dots_server.specs.ServerValues.{Represents};
 
 use crate::server::Server;
-use dots_machine::{Exchange, ShortMessage};
+use coap_replies::{Exchange, ShortMessage};
 
 impl Server {
     /// The reply to a repeat of a message that was accepted: one of this peer for this domain with this Message ID (RFC 7252, section

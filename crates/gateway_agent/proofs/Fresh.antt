@@ -6,6 +6,8 @@ use Rattle.coap_message.specs.declared.kind.Kind.{Kind}
 use Rattle.coap_message.specs.declared.kind.Kind.TheVariants.{Con, Non, Ack, Rst}
 use Rattle.coap_message.specs.Message.{CoapMessage, IsMessage, spelling}
 use Rattle.coap_message.specs.Salvage.{salvaged}
+use Rattle.coap_replies.specs.Exchanges.{exchange_in, is_request, rejected, dismissed_unread}
+use Rattle.coap_replies.specs.Replies.{plain}
 use Rattle.dots_heads.specs.declared.reject.Reject.{Reject}
 use Rattle.dots_heads.specs.declared.reject.Reject.TheVariants as reject
 use Rattle.dots_laws.specs.Calm.{is_http}
@@ -15,9 +17,8 @@ use Rattle.dots_gateway.specs.declared.passed.Passed.TheVariants as passed
 use Rattle.dots_gateway.specs.declared.passed.GatewayFault.TheVariants as fault
 use Rattle.dots_gateway.specs.Exchanges.{ExchangesValue, is_full, is_from, exchange_for, key_for}
 use Rattle.dots_gateway.specs.Forwarding.{forwarded}
-use Rattle.dots_gateway.specs.Gateway.{GatewayValue, Said, Ups, of_no_client, unreadable, asking, asked_said, wanted_said, passed_on, passed_by, passed_again, passed_first, came_again, refused, refused_option, rejected, unread}
-use Rattle.dots_gateway.specs.Replies.{plain}
-use Rattle.dots_gateway.specs.Wanted.{Passage, Wanted, beat, passage, is_request, wanted_of}
+use Rattle.dots_gateway.specs.Gateway.{GatewayValue, Said, Ups, of_no_client, unreadable, asking, asked_said, wanted_said, passed_on, passed_by, passed_again, passed_first, came_again, refused, refused_option, dismissed_said}
+use Rattle.dots_gateway.specs.Wanted.{Passage, Wanted, beat, passage, wanted_of}
 
 -- it is that of a message, with the next number, and there was room
 pub record IsFresh (e : ExchangesValue) (peer : ℕ) (x : Exchange) : Type 0 where
@@ -32,7 +33,7 @@ Sound e peer m (Ok (passed.Forward bytes (Some x))) = (x ≡ exchange_for e peer
 Sound e peer m _ = ⊤
 
 module _ (e : ExchangesValue) (peer : ℕ) (m : CoapMessage) where
-  rejected_sound : (kind : Kind) (id : ℕ) → Sound e peer m (rejected peer kind id)
+  rejected_sound : (kind : Kind) (id : ℕ) → Sound e peer m (dismissed_said peer (rejected kind id))
   rejected_sound Con id = tt
   rejected_sound Non id = tt
   rejected_sound Ack id = tt
@@ -78,7 +79,7 @@ module _ (e : ExchangesValue) (peer : ℕ) (m : CoapMessage) where
   on_sound : (domain datagram : List ℕ) (p : Passage) → Sound e peer m (passed_on e peer domain datagram m p)
   on_sound domain datagram p = by_test (p.hop == 1)
     where
-      by_test : (b : Bool) → Sound e peer m (cond {A = Said} b (Ok (passed.Reply peer (plain 0xa8 m []))) (passed_by e peer domain datagram m p (find (is_from peer m.identifier) e.waiting)))
+      by_test : (b : Bool) → Sound e peer m (cond {A = Said} b (Ok (passed.Reply peer (plain 0xa8 (exchange_in m) []))) (passed_by e peer domain datagram m p (find (is_from peer m.identifier) e.waiting)))
       by_test true = tt
       by_test false = by_sound domain datagram p (find (is_from peer m.identifier) e.waiting)
 
@@ -90,7 +91,7 @@ module _ (e : ExchangesValue) (peer : ℕ) (m : CoapMessage) where
   asked_sound : (domain datagram : List ℕ) → Sound e peer m (asked_said e peer domain datagram m)
   asked_sound domain datagram = by_test (is_request m)
     where
-      by_test : (b : Bool) → Sound e peer m (cond {A = Said} b (wanted_said e peer domain datagram m (wanted_of m)) (rejected peer m.kind m.identifier))
+      by_test : (b : Bool) → Sound e peer m (cond {A = Said} b (wanted_said e peer domain datagram m (wanted_of m)) (dismissed_said peer (rejected m.kind m.identifier)))
       by_test true = wanted_sound domain datagram (wanted_of m)
       by_test false = rejected_sound m.kind m.identifier
 
@@ -103,13 +104,13 @@ no_silence is = absurd (cc)
 no_reply : {peer : ℕ} {reply bytes : List ℕ} {x : Exchange} → ◌≡◌ {A = Said} (Ok (passed.Forward bytes (Some x))) (Ok (passed.Reply peer reply)) → ⊥
 no_reply is = absurd (cc)
 
-rejected_none : (peer : ℕ) (kind : Kind) (id : ℕ) (bytes : List ℕ) (x : Exchange) → Ok (passed.Forward bytes (Some x)) ≡ rejected peer kind id → ⊥
+rejected_none : (peer : ℕ) (kind : Kind) (id : ℕ) (bytes : List ℕ) (x : Exchange) → Ok (passed.Forward bytes (Some x)) ≡ dismissed_said peer (rejected kind id) → ⊥
 rejected_none peer Con id bytes x is = no_reply is
 rejected_none peer Non id bytes x is = no_silence is
 rejected_none peer Ack id bytes x is = no_silence is
 rejected_none peer Rst id bytes x is = no_silence is
 
-unread_none : (peer : ℕ) (o : Option (Kind × ℕ)) (bytes : List ℕ) (x : Exchange) → Ok (passed.Forward bytes (Some x)) ≡ unread peer o → ⊥
+unread_none : (peer : ℕ) (o : Option (Kind × ℕ)) (bytes : List ℕ) (x : Exchange) → Ok (passed.Forward bytes (Some x)) ≡ dismissed_said peer (dismissed_unread o) → ⊥
 unread_none peer None bytes x is = no_silence is
 unread_none peer (Some message) bytes x is = rejected_none peer message.0 message.1 bytes x is
 

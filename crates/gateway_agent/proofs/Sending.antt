@@ -7,6 +7,8 @@ use Rattle.coap_message.specs.declared.kind.Kind.{Kind}
 use Rattle.coap_message.specs.declared.kind.Kind.TheVariants.{Con, Non, Ack, Rst}
 use Rattle.coap_message.specs.Message.{CoapMessage, spelling}
 use Rattle.coap_message.specs.Salvage.{salvaged}
+use Rattle.coap_replies.specs.Exchanges.{exchange_in, reply_kind, is_request, rejected, dismissed_unread}
+use Rattle.coap_replies.specs.Replies.{plain, rejection, reset_message}
 use Rattle.dots_heads.specs.RejectText.{reject_code, reject_text}
 use Rattle.dots_heads.specs.declared.reject.Reject.{Reject}
 use Rattle.dots_heads.specs.declared.reject.Reject.TheVariants as reject
@@ -16,15 +18,14 @@ use Rattle.dots_gateway.specs.declared.passed.Passed.TheVariants as passed
 use Rattle.dots_gateway.specs.declared.passed.GatewayFault.TheVariants as fault
 use Rattle.dots_gateway.specs.Exchanges.{ExchangesValue, is_full, is_from, is_passed, exchange_for}
 use Rattle.dots_gateway.specs.Forwarding.{forwarded, answered}
-use Rattle.dots_gateway.specs.Gateway.{GatewayValue, Said, Ups, of_no_client, unreadable, asking, asked_said, wanted_said, passed_on, passed_by, passed_again, passed_first, came_again, refused, refused_option, rejected, unread, Downs, no_message, beating, answering, beat_answer, may_answer, is_response, answer_to, response_said}
-use Rattle.dots_gateway.specs.Replies.{plain, rejection, reply_kind, reset_message}
-use Rattle.dots_gateway.specs.Wanted.{Passage, Wanted, beat, passage, hop_in, is_request, wanted_of}
+use Rattle.dots_gateway.specs.Gateway.{GatewayValue, Said, Ups, of_no_client, unreadable, asking, asked_said, wanted_said, passed_on, passed_by, passed_again, passed_first, came_again, refused, refused_option, dismissed_said, Downs, no_message, beating, answering, beat_answer, may_answer, is_response, answer_to, response_said}
+use Rattle.dots_gateway.specs.Wanted.{Passage, Wanted, beat, passage, hop_in, wanted_of}
 use Rattle.gateway_agent.proofs.Packets.{IsNumbered, IsNone, may_be_asked, none_asked}
 use Rattle.gateway_agent.proofs.Rising.{found_in}
 
 -- ---- replies are no requests
 
-pub plain_none : (code : ℕ) (m : CoapMessage) (text : List ℕ) → may_be_asked code ≡ false → IsNone (plain code m text)
+pub plain_none : (code : ℕ) (m : CoapMessage) (text : List ℕ) → may_be_asked code ≡ false → IsNone (plain code (exchange_in m) text)
 plain_none code m text other =
     none_asked (record { kind = reply_kind m.kind; code = code; identifier = m.identifier; token = m.token; options = []; payload = text }) other
 
@@ -43,7 +44,7 @@ code_none reject.Query = refl
 code_none (reject.Body cause) = refl
 code_none reject.NoMemory = refl
 
-rejection_none : (m : CoapMessage) (why : Reject) → IsNone (rejection m why)
+rejection_none : (m : CoapMessage) (why : Reject) → IsNone (rejection (exchange_in m) why)
 rejection_none m why = plain_none (reject_code why) m (reject_text why) (code_none why)
 
 class_none : (class : ℕ) → (class == 2 || class == 4 || class == 5) ≡ true → (class == 0) ≡ false
@@ -78,7 +79,7 @@ response_replies e m = by_test (is_response m) refl
 beat_none : (m : CoapMessage) → IsNone (beat_answer m)
 beat_none m = by_test (hop_in m.options == 0)
   where
-    by_test : (b : Bool) → IsNone (cond b (rejection m reject.HopLimit) (plain 0x44 m []))
+    by_test : (b : Bool) → IsNone (cond b (rejection (exchange_in m) reject.HopLimit) (plain 0x44 (exchange_in m) []))
     by_test true = rejection_none m reject.HopLimit
     by_test false = plain_none 0x44 m [] refl
 
@@ -99,13 +100,13 @@ IsOfOne e _ = ⊤
 numbered : (number : ℕ) (domain : List ℕ) (p : Passage) (m : CoapMessage) → IsNumbered number (spelling (forwarded number domain p m))
 numbered number domain p m = record { m = forwarded number domain p m; spelled = refl; token = refl }
 
-rejected_of : (e : ExchangesValue) (peer : ℕ) (kind : Kind) (id : ℕ) → IsOfOne e (rejected peer kind id)
+rejected_of : (e : ExchangesValue) (peer : ℕ) (kind : Kind) (id : ℕ) → IsOfOne e (dismissed_said peer (rejected kind id))
 rejected_of e peer Con id = reset_none id
 rejected_of e peer Non id = tt
 rejected_of e peer Ack id = tt
 rejected_of e peer Rst id = tt
 
-unread_of : (e : ExchangesValue) (peer : ℕ) (o : Option (Kind × ℕ)) → IsOfOne e (unread peer o)
+unread_of : (e : ExchangesValue) (peer : ℕ) (o : Option (Kind × ℕ)) → IsOfOne e (dismissed_said peer (dismissed_unread o))
 unread_of e peer None = tt
 unread_of e peer (Some message) = rejected_of e peer message.0 message.1
 
@@ -117,7 +118,7 @@ module _ (e : ExchangesValue) (peer : ℕ) (m : CoapMessage) where
   option_of Rst reply none = tt
 
   refused_of : (why : Reject) → IsOfOne e (refused peer m why)
-  refused_of (reject.Critical number) = option_of m.kind (rejection m (reject.Critical number)) (rejection_none m (reject.Critical number))
+  refused_of (reject.Critical number) = option_of m.kind (rejection (exchange_in m) (reject.Critical number)) (rejection_none m (reject.Critical number))
   refused_of reject.Path = rejection_none m reject.Path
   refused_of reject.Method = rejection_none m reject.Method
   refused_of reject.HopLimit = rejection_none m reject.HopLimit
@@ -149,7 +150,7 @@ module _ (e : ExchangesValue) (peer : ℕ) (m : CoapMessage) where
   on_of : (domain datagram : List ℕ) (p : Passage) → IsOfOne e (passed_on e peer domain datagram m p)
   on_of domain datagram p = by_test (p.hop == 1)
     where
-      by_test : (b : Bool) → IsOfOne e (cond {A = Said} b (Ok (passed.Reply peer (plain 0xa8 m []))) (passed_by e peer domain datagram m p (find (is_from peer m.identifier) e.waiting)))
+      by_test : (b : Bool) → IsOfOne e (cond {A = Said} b (Ok (passed.Reply peer (plain 0xa8 (exchange_in m) []))) (passed_by e peer domain datagram m p (find (is_from peer m.identifier) e.waiting)))
       by_test true = plain_none 0xa8 m [] refl
       by_test false = by_of domain datagram p (find (is_from peer m.identifier) e.waiting) refl
 
@@ -161,7 +162,7 @@ module _ (e : ExchangesValue) (peer : ℕ) (m : CoapMessage) where
   asked_of : (domain datagram : List ℕ) → IsOfOne e (asked_said e peer domain datagram m)
   asked_of domain datagram = by_test (is_request m)
     where
-      by_test : (b : Bool) → IsOfOne e (cond {A = Said} b (wanted_said e peer domain datagram m (wanted_of m)) (rejected peer m.kind m.identifier))
+      by_test : (b : Bool) → IsOfOne e (cond {A = Said} b (wanted_said e peer domain datagram m (wanted_of m)) (dismissed_said peer (rejected m.kind m.identifier)))
       by_test true = wanted_by domain datagram (wanted_of m)
       by_test false = rejected_of e peer m.kind m.identifier
 

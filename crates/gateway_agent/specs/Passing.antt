@@ -4,6 +4,8 @@ use Rattle.std.specs.Prelude.{◌≡◌, ℕ, ◌==◌, max, List, [], ◌∷◌
 use Rattle.std.specs.Bool.{MatchBool}
 use Rattle.coap_message.specs.declared.codes.TheConstants.{SERVICE_UNAVAILABLE, INTERNAL_SERVER_ERROR}
 use Rattle.coap_message.specs.Message.{CoapMessage, IsMessage, spelling}
+use Rattle.coap_replies.specs.Exchanges.{exchange_in, is_request}
+use Rattle.coap_replies.specs.Replies.{plain}
 use Rattle.dots_host.specs.declared.event.Event.{Event}
 use Rattle.dots_host.specs.declared.event.Event.TheVariants as event
 use Rattle.dots_host.specs.declared.out.OwnedOut.{OwnedOut}
@@ -17,8 +19,6 @@ use Rattle.dots_gateway.specs.declared.passed.GatewayFault.TheVariants as fault
 use Rattle.dots_gateway.specs.declared.routes.Route.{Route}
 use Rattle.dots_gateway.specs.Exchanges.{waiting_again}
 use Rattle.dots_gateway.specs.Gateway.{GatewayValue, Said, gateway_at, UpOrLacks, DownOrLacks}
-use Rattle.dots_gateway.specs.Replies.{plain}
-use Rattle.dots_gateway.specs.Wanted.{is_request}
 use Rattle.dots_gateway.specs.Routes.{routes_of}
 use Rattle.dots_settings.specs.Settings.{SettingsValue}
 use Rattle.slot_journal.specs.Sizes.{slots_of}
@@ -77,7 +77,7 @@ sends_of upstream passed.NoMemory = []
 -- A request that can't be passed on is answered with this code, and nothing else is.
 pub data Refuses (peer : ℕ) (datagram : List ℕ) (code : ℕ) (text : List ℕ) (outs : List OwnedOut) : Type 0 where
   answered : (m : CoapMessage) → IsMessage m → datagram ≡ spelling m → is_request m ≡ true
-      → outs ≡ owned.To peer (plain code m text) ∷ [] → Refuses peer datagram code text outs
+      → outs ≡ owned.To peer (plain code (exchange_in m) text) ∷ [] → Refuses peer datagram code text outs
   silent : ((m : CoapMessage) → IsMessage m → datagram ≡ spelling m → is_request m ≡ true → ⊥)
       → outs ≡ [] → Refuses peer datagram code text outs
 

@@ -12,17 +12,17 @@ use Rattle.dots_heads.specs.declared.reject.Reject.TheVariants as reject
 use Rattle.dots_heads.specs.RejectText.{reject_text}
 use Rattle.dots_keys.specs.declared.request.Request.{Request}
 use Rattle.dots_history.specs.declared.entry.Entry.{Entry}
-use Rattle.dots_machine.specs.declared.exchange.Exchange.{Exchange}
-use Rattle.dots_machine.specs.declared.dismissal.Dismissal.{Dismissal}
-use Rattle.dots_machine.specs.declared.dismissal.Dismissal.TheVariants as dismissal
+use Rattle.coap_replies.specs.declared.exchange.Exchange.{Exchange}
+use Rattle.coap_replies.specs.declared.dismissal.Dismissal.{Dismissal}
+use Rattle.coap_replies.specs.declared.dismissal.Dismissal.TheVariants as dismissal
 use Rattle.dots_machine.specs.declared.received.Received.{Received}
 use Rattle.dots_machine.specs.declared.received.Received.TheVariants as received
 use Rattle.dots_machine.specs.Verdict.{Verdict}
 use Rattle.dots_machine.specs.declared.verdict.Verdict.TheVariants as verdict
 use Rattle.dots_machine.specs.Domains.{is_gateway, is_stranger}
-use Rattle.dots_machine.specs.Exchanges.{exchange_in}
+use Rattle.coap_replies.specs.Exchanges.{exchange_in}
 use Rattle.dots_machine.specs.Requests.{received_as, IsReceived, unread, asks_nothing, meant}
-use Rattle.dots_machine.specs.Replies.{rejection}
+use Rattle.coap_replies.specs.Replies.{rejection}
 use Rattle.dots_machine.specs.Facts.{Facts, AreFacts}
 use Rattle.dots_machine.specs.Deciding.{answer_to}
 use Rattle.dots_machine.specs.Machine.{State, later, option_verdict, reject_verdict, dismissal_verdict, rules_say, Decides, by_silence, by_rules, for_want_of_memory, after, Answers, Step}

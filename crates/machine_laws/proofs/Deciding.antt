@@ -36,12 +36,13 @@ use Rattle.conflict_rules.specs.declared.fault.PutFault.TheVariants as faults
 use Rattle.conflict_rules.specs.declared.judging.Judged.{Judged}
 use Rattle.target_rules.specs.declared.target.TargetFault.{TargetFault}
 use Rattle.target_rules.specs.Targets.{scope_fault, target_text}
-use Rattle.dots_machine.specs.declared.exchange.Exchange.{Exchange}
+use Rattle.coap_replies.specs.declared.exchange.Exchange.{Exchange}
 use Rattle.dots_machine.specs.declared.mitigation_request.MitigationRequest.{MitigationRequest}
 use Rattle.dots_machine.specs.Verdict.{Verdict}
 use Rattle.dots_machine.specs.declared.verdict.Verdict.TheVariants as verdict
 use Rattle.dots_machine.specs.Domains.{domain_for, config_domain}
-use Rattle.dots_machine.specs.Replies.{conflicting, configuration_reply, session_view, absent, plain}
+use Rattle.coap_replies.specs.Replies.{plain}
+use Rattle.dots_machine.specs.Replies.{conflicting, configuration_reply, session_view, absent}
 use Rattle.dots_machine.specs.MessageRepeats.{Repeats, sent_for, unless_repeated}
 use Rattle.dots_machine.specs.Mitigations.{key_of, request_of, refusal, judged, is_wanted, get_reply, unless_faulty, put_answer, client_for, is_taken, delete_by, delete_answer, get_by}
 use Rattle.dots_machine.specs.Sessions.{Configured, sid_of, is_held}

@@ -35,7 +35,7 @@ use Rattle.agent_messages.proofs.Heads.{recognised}
 use Rattle.dots_gateway.specs.Forwarding.{option_with, forwarded}
 use Rattle.dots_gateway.specs.Wanted.{passage, wanted_of}
 use Rattle.dots_machine.specs.Answering.{AreBytes}
-use Rattle.dots_machine.specs.Exchanges.{exchange_in}
+use Rattle.coap_replies.specs.Exchanges.{exchange_in}
 use Rattle.dots_machine.specs.Requests.{received_as}
 use Rattle.machine_laws.specs.Forwarding.{passage_for, asked_in, withdrawn_in}
 use Rattle.machine_laws.specs.Reading.{IsReadAs}

@@ -19,7 +19,7 @@ use Rattle.dots_notices.specs.Notifying.{Bodies, is_gone, notice_bytes, notice, 
 use Rattle.dots_settings.specs.Settings.{SettingsValue}
 use Rattle.dots_machine.specs.Verdict.{Verdict}
 use Rattle.dots_machine.specs.declared.verdict.Verdict.TheVariants as verdict
-use Rattle.dots_machine.specs.Exchanges.{reply_kind}
+use Rattle.coap_replies.specs.Exchanges.{reply_kind}
 use Rattle.dots_machine.specs.Replies.{observe_with, showing}
 use Rattle.dots_machine.specs.Observing.{number_of, bodies_at}
 use Rattle.dots_machine.specs.Machine.{State, later, seen_in, sends_of, after, watched, Answers, Step}

@@ -6,7 +6,7 @@ use Rattle.dots_settings.specs.Lookups.{role_of}
 use Rattle.dots_keys.specs.declared.request.Request.{Request}
 use Rattle.dots_keys.specs.declared.request.Request.TheVariants as request
 use Rattle.dots_history.specs.declared.entry.Entry.{Entry}
-use Rattle.dots_machine.specs.declared.exchange.Exchange.{Exchange}
+use Rattle.coap_replies.specs.declared.exchange.Exchange.{Exchange}
 use Rattle.dots_machine.specs.Domains.{is_gateway}
 use Rattle.dots_machine.specs.Replies.{configuring, deleted}
 use Rattle.machine_laws.specs.Adding.{Carries, CarriesRequest}

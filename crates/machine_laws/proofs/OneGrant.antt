@@ -13,7 +13,7 @@ use Rattle.reply_bodies.specs.Mitigations.{granted_scope, granted_tree}
 use Rattle.reply_bodies.proofs.Shapes.{granted_within, mitigations_valid}
 use Rattle.agent_messages.specs.Grants.{IsGranted}
 use Rattle.dots_history.specs.declared.put.Put.{Put}
-use Rattle.dots_machine.specs.declared.exchange.Exchange.{Exchange}
+use Rattle.coap_replies.specs.declared.exchange.Exchange.{Exchange}
 use Rattle.dots_machine.specs.Replies.{grant_code, granting}
 use Rattle.machine_laws.specs.Granting.{IsGrant}
 use Rattle.machine_laws.proofs.Telling.{body_message}

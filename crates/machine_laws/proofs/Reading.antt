@@ -26,7 +26,7 @@ use Rattle.agent_messages.specs.Requests.{asking, withdrawing}
 use Rattle.agent_messages.proofs.Read.{asking_means, withdrawing_means}
 use Rattle.dots_machine.specs.declared.received.Received.{Received}
 use Rattle.dots_machine.specs.Answering.{AreBytes}
-use Rattle.dots_machine.specs.Exchanges.{exchange_in, dismissed}
+use Rattle.coap_replies.specs.Exchanges.{exchange_in, dismissed}
 use Rattle.dots_machine.specs.Requests.{received_as, IsReceived, unread, asks_nothing, meant}
 use Rattle.machine_laws.specs.Reading.{IsReadAs}
 

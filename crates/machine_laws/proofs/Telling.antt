@@ -9,9 +9,9 @@ use Rattle.coap_message.specs.Message.{CoapMessage, IsMessage, spelling}
 use Rattle.dots_history.specs.declared.entry.Entry.{Entry}
 use Rattle.dots_history.specs.Entries.{is_signal, signals}
 use Rattle.reply_bodies.specs.Mitigations.{granted_tree}
-use Rattle.dots_machine.specs.declared.exchange.Exchange.{Exchange}
-use Rattle.dots_machine.specs.Exchanges.{reply_kind}
-use Rattle.dots_machine.specs.Replies.{dots_cbor}
+use Rattle.coap_replies.specs.declared.exchange.Exchange.{Exchange}
+use Rattle.coap_replies.specs.Exchanges.{reply_kind}
+use Rattle.coap_replies.specs.Replies.{dots_cbor}
 use Rattle.dots_machine.specs.Observing.{code_of}
 use Rattle.machine_laws.specs.Granting.{IsGrant}
 

@@ -13,7 +13,7 @@ use Rattle.dots_history.specs.declared.put.Put.{Put}
 use Rattle.dots_history.specs.declared.config.Config.{Config}
 use Rattle.dots_history.specs.declared.change.Change.TheVariants as change
 use Rattle.session_core.specs.Negotiating.{negotiated}
-use Rattle.dots_machine.specs.declared.exchange.Exchange.{Exchange}
+use Rattle.coap_replies.specs.declared.exchange.Exchange.{Exchange}
 use Rattle.dots_machine.specs.declared.received.Received.TheVariants as received
 use Rattle.dots_machine.specs.Domains.{is_gateway, is_stranger}
 use Rattle.dots_machine.specs.Requests.{IsReceived}

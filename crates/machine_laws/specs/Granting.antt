@@ -8,7 +8,7 @@ use Rattle.dots_client.specs.Answers.{GrantsMid}
 use Rattle.dots_history.specs.declared.entry.Entry.{Entry}
 use Rattle.dots_history.specs.declared.put.Put.{Put}
 use Rattle.dots_history.specs.declared.change.Change.TheVariants as change
-use Rattle.dots_machine.specs.declared.exchange.Exchange.{Exchange}
+use Rattle.coap_replies.specs.declared.exchange.Exchange.{Exchange}
 
 -- the bytes are a message with this token which grants this mid for this lifetime (RFC 9132, section 4.4.1.3)
 pub record IsGrant (bytes token : List ℕ) (mid : ℕ) (lifetime : ℤ) : Type 0 where

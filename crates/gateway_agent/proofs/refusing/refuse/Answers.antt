@@ -1,10 +1,10 @@
 use Rattle.std.proofs.Common.{[], ◌∷◌, List, ℕ, refl, sym, ap, subst, ◌∙◌}
 use Rattle.std.proofs.lemmas.Bool.{false≢true}
+use Rattle.coap_replies.specs.Exchanges.{is_request}
 use Rattle.dots_host.specs.declared.out.OwnedOut.TheVariants as owned
 use Rattle.dots_host.specs.Runs.{Added, Gives}
 use Rattle.dots_host.proofs.RunLemmas.{added_none}
 use Rattle.dots_gateway.proofs.Steps.{err_ok}
-use Rattle.dots_gateway.specs.Wanted.{is_request}
 use Rattle.gateway_agent.specs.Passing.{answered, silent}
 use Rattle.gateway_agent.proofs.Fresh.{ok_same}
 use Rattle.gateway_agent.proofs.refusing.refuse.Goals as goal

@@ -1,8 +1,9 @@
 use Rattle.std.proofs.Common.{List, refl, sym, ap, subst, ◌∙◌}
 use Rattle.coap_message.specs.Salvage.{salvaged}
+use Rattle.coap_replies.specs.Exchanges.{dismissed_unread}
 use Rattle.dots_gateway.specs.declared.routes.Route.{Route}
 use Rattle.dots_gateway.specs.Exchanges.{ExchangesValue}
-use Rattle.dots_gateway.specs.Gateway.{GatewayValue, Ups, UpOrLacks, gateway_at, unread, unreadable, asking, asked_said}
+use Rattle.dots_gateway.specs.Gateway.{GatewayValue, Ups, UpOrLacks, gateway_at, dismissed_said, unreadable, asking, asked_said}
 use Rattle.dots_gateway.specs.Routes.{domain_for}
 use Rattle.dots_gateway.proofs.Steps.{up_then, old_leaves, err_ok}
 use Rattle.dots_gateway.proofs.gateway.GatewayCore.up.Goals as goal
@@ -11,7 +12,7 @@ pub returns-in_default-decode : goal.returns-in_default-decode
 returns-in_default-decode c =
     let g : GatewayValue = record { routes = c.self.inside.routes.items; upstream = c.self.inside.upstream; exchanges = c.pass_time.new.self } in
     let domain = ap (λ (rs : List Route). domain_for rs c.self.inside.upstream c.args.from) (sym c.deref.ensures.value) ∙ sym c.in-Some.ensures in
-    let ups : Ups g c.args.from c.args.bytes.now (unread c.args.from (salvaged c.args.bytes.now)) = unreadable c.in-Some.domain.now domain (λ m is spelled. err_ok (c.in_default-decode.ensures.only m is spelled)) refl in
+    let ups : Ups g c.args.from c.args.bytes.now (dismissed_said c.args.from (dismissed_unread (salvaged c.args.bytes.now))) = unreadable c.in-Some.domain.now domain (λ m is spelled. err_ok (c.in_default-decode.ensures.only m is spelled)) refl in
     let new : GatewayValue = record { routes = c.self.inside.routes.items; upstream = c.self.inside.upstream; exchanges = c.pass_time.new.self } in
     subst (λ (g : GatewayValue). UpOrLacks (gateway_at c.args.now g) c.args.from c.args.bytes.now c.unread.result new) c.self.view_is
     (subst (λ (e : ExchangesValue). UpOrLacks (record { routes = c.self.inside.routes.items; upstream = c.self.inside.upstream; exchanges = e }) c.args.from c.args.bytes.now c.unread.result new)

@@ -1,7 +1,7 @@
 ghost use Rattle.std.specs.Prelude.{◌≡◌, ◌≤◌, length};
 ghost use Rattle.coap_message.specs.Message.{spelling};
 ghost use Rattle.coap_message.specs.Parts.{IsValid, message_of};
-ghost use Rattle.dots_machine.specs.declared.short_message.TheConstants.{MAX_SHORT};
+ghost use Rattle.coap_replies.specs.declared.short_message.TheConstants.{MAX_SHORT};
 
 use coap_message::{Parts, encode_into};
 use std::marker::Model;

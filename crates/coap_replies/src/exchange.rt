@@ -1,5 +1,5 @@
 ghost use Rattle.std.specs.Prelude.{◌≡◌};
-ghost use Rattle.dots_machine.specs.Exchanges.{exchange_in, reply_kind};
+ghost use Rattle.coap_replies.specs.Exchanges.{exchange_in, reply_kind};
 
 use coap_message::{Kind, Message, Token};
 

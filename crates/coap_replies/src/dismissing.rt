@@ -2,11 +2,11 @@
 
 ghost use Rattle.std.specs.Prelude.{◌≡◌};
 ghost use Rattle.coap_message.specs.Salvage.{salvaged};
-ghost use Rattle.dots_machine.specs.Exchanges.{dismissed, may_ask, emptied, rejected, dismissed_unread};
+ghost use Rattle.coap_replies.specs.Exchanges.{dismissed, may_ask, is_request, emptied, rejected, dismissed_unread};
 
+use crate::dismissal::Dismissal;
 use coap_message::codes::EMPTY;
 use coap_message::{Kind, Message, salvage};
-use dots_machine::Dismissal;
 
 /// What is done with a datagram that can't be read: where its type and Message ID can be told and it is confirmable it
 /// is reset (RFC 7252, section 4.2).
@@ -20,7 +20,7 @@ pub fn dismissed_unread(datagram: &[u8]) -> Dismissal
 }
 
 /// What is rejected is reset where it is confirmable, and else ignored (RFC 7252, sections 4.2 and 4.3).
-fn rejected(kind: Kind, id: u16) -> Dismissal
+pub fn rejected(kind: Kind, id: u16) -> Dismissal
     ensures { result ≡ rejected kind id }
 {
     match kind {
@@ -56,8 +56,15 @@ pub fn dismissed(message: &Message<'_>) -> Option<Dismissal>
     None
 }
 
+/// Whether the message is a request: confirmable or not, and of the class 0 (RFC 7252, section 3).
+pub fn is_request(message: &Message<'_>) -> bool
+    ensures { result ≡ is_request message.now }
+{
+    may_ask(message.kind()) && message.code() != EMPTY && message.code() / 32 == 0
+}
+
 /// Whether the type is that of a request (RFC 7252, section 3).
-fn may_ask(kind: Kind) -> bool
+pub fn may_ask(kind: Kind) -> bool
     ensures { result ≡ may_ask kind }
 {
     match kind {

@@ -1,12 +1,12 @@
 -- What a message is answered before it is looked at what it asks (RFC 7252, sections 4.2 and 4.3).
-use Rattle.std.specs.Prelude.{ℕ, ◌/◌, Bool, true, false, not, ◌==◌, if◌then◌else◌, Option, Some, None}
+use Rattle.std.specs.Prelude.{ℕ, ◌/◌, Bool, true, false, not, ◌&&◌, ◌==◌, if◌then◌else◌, Option, Some, None}
 use Rattle.coap_message.specs.declared.kind.Kind.{Kind}
 use Rattle.coap_message.specs.declared.kind.Kind.TheVariants.{Con, Non, Ack, Rst}
 use Rattle.coap_message.specs.declared.codes.TheConstants.{EMPTY}
 use Rattle.coap_message.specs.Message.{CoapMessage}
-use Rattle.dots_machine.specs.declared.exchange.Exchange.{Exchange}
-use Rattle.dots_machine.specs.declared.dismissal.Dismissal.{Dismissal}
-use Rattle.dots_machine.specs.declared.dismissal.Dismissal.TheVariants as dismissal
+use Rattle.coap_replies.specs.declared.exchange.Exchange.{Exchange}
+use Rattle.coap_replies.specs.declared.dismissal.Dismissal.{Dismissal}
+use Rattle.coap_replies.specs.declared.dismissal.Dismissal.TheVariants as dismissal
 
 -- what a reply takes from its request
 abbrev pub exchange_in : CoapMessage → Exchange
@@ -34,6 +34,10 @@ may_ask Con = true
 may_ask Non = true
 may_ask Ack = false
 may_ask Rst = false
+
+-- and their codes are of the class 0 and not that of an empty message
+abbrev pub is_request : CoapMessage → Bool
+is_request m = may_ask m.kind && not (m.code == EMPTY) && m.code / 32 == 0
 
 -- An empty message asks nothing, and acknowledgements and resets are ignored; what isn't of the class of requests, 0, is rejected; any other
 -- asks something.
