@@ -33,8 +33,8 @@ pub record Facts : Type 0 where
 
 -- the test is whether this holds
 abbrev pub IsTestOf : Bool → Type 0 → Type 0
-IsTestOf true HasEntries = HasEntries
-IsTestOf false HasEntries = ¬ HasEntries
+IsTestOf true Claim = Claim
+IsTestOf false Claim = ¬ Claim
 
 -- The facts are those of the history at the time, by the places of its entries.
 pub record AreFacts (settings : SettingsValue) (t : ℕ) (history : List Entry) (facts : Facts) : Type 0 where

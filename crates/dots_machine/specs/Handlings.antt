@@ -45,5 +45,5 @@ pub record IsHandling (settings : SettingsValue) (old : State) (handling : Handl
 
 -- from the one state to the other, the property holds of each handling, which goes on from the state that the one before it left
 abbrev pub EachHandling : (State → Handling → State → Type 0) → State → List Handling → State → Type 0
-EachHandling HasEntries old [] new = new ≡ old
-EachHandling HasEntries old (handling ∷ handlings) new = (between : State) × HasEntries old handling between × EachHandling HasEntries between handlings new
+EachHandling Handled old [] new = new ≡ old
+EachHandling Handled old (handling ∷ handlings) new = (between : State) × Handled old handling between × EachHandling Handled between handlings new
