@@ -1,6 +1,6 @@
 -- Blocks that were fetched join to the body that the first was cut from.
 use Rattle.std.proofs.Common.{inl, inr, ◌≡◌, ℕ, zero, suc, ◌+◌, ◌*◌, ◌<◌, ◌≤◌, Bool, true, List, [], ◌∷◌, ◌++◌, length, take, drop, get_or, Some, refl, sym, ap, subst, ◌∙◌, append-nil, arith}
-use Rattle.std.specs.Prelude.{nat_lt, bytes_eq}
+use Rattle.std.specs.Prelude.{◌⊎◌, nat_lt, bytes_eq}
 use Rattle.std.specs.List.{concat}
 use Rattle.std.proofs.lemmas.Bool.{ltb-false, eqb-true, eq-eqb, and_parts, and_from}
 use Rattle.std.proofs.lemmas.List.{take-append-drop, drop-drop}
@@ -10,10 +10,12 @@ use Rattle.dots_host.specs.declared.out.OwnedOut.TheVariants as owned
 use Rattle.dots_host.specs.Acts.{Timed, WireAct, took, gave}
 use Rattle.coap_block.specs.declared.block.BlockOption.{BlockOption}
 use Rattle.coap_block.specs.declared.stored.StoredBody.{StoredBody}
+use Rattle.coap_block.specs.declared.observed.ObservedRequest.{ObservedRequest}
 use Rattle.coap_block.specs.Option.{block_size}
-use Rattle.coap_block.specs.Blocks.{Asked, Blocks, Sends, Answer, same, refused, first, later, IsAnswered, is_reply, cut_to, unavailable, part_of, follows, body_or, without_peer}
+use Rattle.coap_block.specs.Blocks.{Asked, Blocks, Sends, Answer, same, refused, first, later, IsAnswered, IsNotified, first_block, is_reply, cut_to, unavailable, part_of, follows, body_or, keeping, without_peer}
 use Rattle.coap_block.specs.Around.{IsSeen}
-use Rattle.coap_block.specs.Fetching.{Fetch, IsNoFirst, MakesNoFirst, IsBetween, IsFetched, FetchesRest, Fetches}
+use Rattle.coap_block.specs.Fetching.{Fetch, IsNoFirst, MakesNoFirst, IsBetween, IsFetched, IsNotice, FetchesRest, Fetches}
+use Rattle.coap_block.proofs.Notices.{never_whole}
 use Rattle.coap_block.proofs.BesideAround.{stored_of, stored_new, stored_still, answer_cases}
 
 abbrev pub HasStored : Fetch → Blocks → StoredBody → Type 0
@@ -30,9 +32,16 @@ answered_still fetch (first block) asked m old new out body (inl made) none hold
 answered_still fetch (first block) asked m old new out body (inr made) none holds =
     ap (stored_of fetch.peer fetch.request) (made.1 ∙ sym (append-nil (without_peer asked.peer old))) ∙ stored_still fetch.peer asked.peer fetch.request old [] body none holds
 
+notified_still : (fetch : Fetch) (observed : ObservedRequest) (m : CoapMessage) (old new : List StoredBody) (out : List ℕ) (body : StoredBody) → IsNotified observed m old out new → (observed.peer ≡ fetch.peer → ⊥)
+    → stored_of fetch.peer fetch.request old ≡ Some body → stored_of fetch.peer fetch.request new ≡ Some body
+notified_still fetch observed m old new out body (inl made) differs holds = ap (stored_of fetch.peer fetch.request) made.1 ∙ stored_still fetch.peer observed.peer fetch.request old _ body differs holds
+notified_still fetch observed m old new out body (inr made) differs holds =
+    ap (stored_of fetch.peer fetch.request) (made.1 ∙ sym (append-nil (without_peer observed.peer old))) ∙ stored_still fetch.peer observed.peer fetch.request old [] body differs holds
+
 sent_still : (fetch : Fetch) (old new : Blocks) (peer : ℕ) (bytes leaves : List ℕ) (body : StoredBody) → Sends old peer bytes leaves new → MakesNoFirst fetch old peer bytes leaves new → HasStored fetch old body → HasStored fetch new body
-sent_still fetch old new peer bytes leaves body (inl reply) none holds = answered_still fetch _ reply.asked reply.message old.stored new.stored leaves body reply.answered (none reply) holds
-sent_still fetch old new peer bytes leaves body (inr other) none holds = ap (λ blocks. stored_of fetch.peer fetch.request blocks.stored) other.2 ∙ holds
+sent_still fetch old new peer bytes leaves body (inl reply) none holds = answered_still fetch _ reply.asked reply.message old.stored new.stored leaves body reply.answered (none.0 reply) holds
+sent_still fetch old new peer bytes leaves body (inr (inl notice)) none holds = notified_still fetch notice.observed notice.message old.stored new.stored leaves body notice.notified (none.1 notice) holds
+sent_still fetch old new peer bytes leaves body (inr (inr other)) none holds = ap (λ blocks. stored_of fetch.peer fetch.request blocks.stored) other.2 ∙ holds
 
 same_stored : (fetch : Fetch) (old new : Blocks) (body : StoredBody) → new.stored ≡ old.stored → HasStored fetch old body → HasStored fetch new body
 same_stored fetch old new body is holds = ap (stored_of fetch.peer fetch.request) is ∙ holds
@@ -80,12 +89,17 @@ bytes_self : (xs : List ℕ) → bytes_eq xs xs ≡ true
 bytes_self [] = refl
 bytes_self (x ∷ xs) = and_from _ _ (eq-eqb x x refl) (bytes_self xs)
 
+-- what was stored for the request is found
+kept_found : (fetch : Fetch) (from : ℕ) (request body : List ℕ) (old new : List StoredBody) → new ≡ keeping old from request body → from ≡ fetch.peer → request ≡ fetch.request
+    → stored_of fetch.peer fetch.request new ≡ Some (record { peer = from; request = request; body = body })
+kept_found fetch from request body old new made of_peer of_request =
+    let mine : StoredBody = record { peer = from; request = request; body = body } in
+    subst (λ n. stored_of n fetch.request new ≡ Some mine) of_peer (subst (λ bytes. stored_of from bytes new ≡ Some mine) of_request
+    (ap (stored_of from request) made ∙ stored_new from request old mine (and_from _ _ (eq-eqb from from refl) (bytes_self request))))
+
 first_made : (fetch : Fetch) (asked : Asked) (m : CoapMessage) (old new : List StoredBody) (leaves : List ℕ) (block : BlockOption) → IsAnswered (first block) asked m old leaves new → leaves ≡ spelling (cut_to m block m.payload) → m.code ≡ 69
     → asked.peer ≡ fetch.peer → asked.request ≡ fetch.request → stored_of fetch.peer fetch.request new ≡ Some (record { peer = asked.peer; request = asked.request; body = m.payload })
-first_made fetch asked m old new leaves block (inl made) content code peer request =
-    let mine : StoredBody = record { peer = asked.peer; request = asked.request; body = m.payload } in
-    subst (λ n. stored_of n fetch.request new ≡ Some mine) peer (subst (λ bytes. stored_of asked.peer bytes new ≡ Some mine) request
-    (ap (stored_of asked.peer asked.request) made.1 ∙ stored_new asked.peer asked.request old mine (and_from _ _ (eq-eqb asked.peer asked.peer refl) (bytes_self asked.request))))
+first_made fetch asked m old new leaves block (inl made) content code peer request = kept_found fetch asked.peer asked.request m.payload old new made.1 peer request
 first_made fetch asked m old new leaves block (inr made) content code peer request =
     let other : m.code ≡ 160 = second (cut_to m block m.payload) (unavailable m) (sym content ∙ made.0) in
     absurd (omega (arith, code, other))
@@ -109,6 +123,36 @@ first_fetched fetch old new (gave (owned.To to leaves) done) (took e t) block te
 first_fetched fetch old new (gave (owned.Conn c b) done) outer block text fetched = absurd fetched
 first_fetched fetch old new (gave (owned.Close c) done) outer block text fetched = absurd fetched
 first_fetched fetch old new (took e t) outer block text fetched = absurd fetched
+
+-- block 0 came as a notification
+notice_fetched : (fetch : Fetch) (old new : Blocks) (inner outer : WireAct) (block : BlockOption) (text : List ℕ) → IsNotice fetch old inner outer new block text → (body : StoredBody) × Fetched fetch 0 new block text body
+notice_fetched fetch old new (gave (owned.To to leaves) done) (gave (owned.To peer bytes) was) block text came =
+    let notice = came.notifies in
+    let left : leaves ≡ spelling (cut_to notice.message first_block notice.message.payload)
+    = subst (λ whole. leaves ≡ spelling (cut_to notice.message first_block whole)) came.whole (subst (λ b. leaves ≡ spelling (cut_to notice.message b text)) came.made came.content) in
+    elim notice.notified [
+      | inl made ↦ (
+        record { peer = notice.observed.peer; request = notice.observed.request; body = notice.message.payload },
+        record {
+          text_is = came.whole;
+          holds = kept_found fetch notice.observed.peer notice.observed.request notice.message.payload old.stored new.stored made.1 came.of_peer came.of_request;
+          number_is = ap (λ b. b.number) came.made;
+          size_is = came.sized;
+        },
+      )
+      | inr made ↦ absurd (never_whole old.observed peer notice.message notice.observed notice.of notice.is (sym made.0 ∙ left))
+    ]
+notice_fetched fetch old new (gave (owned.To to leaves) done) (gave (owned.Conn c b) was) block text came = absurd came
+notice_fetched fetch old new (gave (owned.To to leaves) done) (gave (owned.Close c) was) block text came = absurd came
+notice_fetched fetch old new (gave (owned.To to leaves) done) (took e t) block text came = absurd came
+notice_fetched fetch old new (gave (owned.Conn c b) done) outer block text came = absurd came
+notice_fetched fetch old new (gave (owned.Close c) done) outer block text came = absurd came
+notice_fetched fetch old new (took e t) outer block text came = absurd came
+
+first_of : (fetch : Fetch) (old new : Blocks) (inner outer : WireAct) (block : BlockOption) (text : List ℕ) → IsFetched fetch 0 old inner outer new block text ⊎ IsNotice fetch old inner outer new block text
+    → (body : StoredBody) × Fetched fetch 0 new block text body
+first_of fetch old new inner outer block text (inl fetched) = first_fetched fetch old new inner outer block text fetched
+first_of fetch old new inner outer block text (inr came) = notice_fetched fetch old new inner outer block text came
 
 later_fetched : (fetch : Fetch) (number : ℕ) (old new : Blocks) (inner outer : WireAct) (block : BlockOption) (text : List ℕ) (body : StoredBody) → IsFetched fetch number old inner outer new block text → 0 < number → HasStored fetch old body
     → Fetched fetch number new block text body
@@ -172,7 +216,7 @@ rest_joins fetch number more old (i ∷ inners) (o ∷ outers) parts body rest a
 
 pub all_join : (fetch : Fetch) (old : Blocks) (inner outer : Timed) (inners outers : List Timed) (text : List ℕ) (parts : List (List ℕ)) → Fetches fetch old inner outer inners outers text parts → concat parts ≡ text
 all_join fetch old inner outer inners outers text parts fetches =
-    let begun = first_fetched fetch old fetches.mid inner.act outer.act fetches.block text fetches.begins in
+    let begun = first_of fetch old fetches.mid inner.act outer.act fetches.block text fetches.begins in
     let body = begun.0 in
     let f = begun.1 in
     let others = rest_joins fetch 1 (follows text fetches.block) fetches.mid inners outers fetches.rest body fetches.goes_on (omega arith) f.holds (more_step fetch 0 fetches.mid fetches.block text body f) in

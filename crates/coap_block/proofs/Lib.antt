@@ -6,5 +6,8 @@ pub mod Sending
 pub mod Values
 pub mod AroundLemmas
 pub mod BesideAround
+pub mod Notices
+pub mod Places
+pub mod Few
 pub mod Joining
 pub mod Plain

@@ -10,6 +10,7 @@ use Rattle.dots_host.specs.declared.out.OwnedOut.TheVariants as owned
 use Rattle.dots_host.specs.Acts.{Timed, WireAct, took, gave}
 use Rattle.coap_block.specs.declared.stored.StoredBody.{StoredBody}
 use Rattle.coap_block.specs.Blocks.{Asked, Blocks, blocks_in, is_get, seen_of, awaited_by, Sees, Sends, same, IsAnswered, answer_of, head_size}
+use Rattle.coap_block.proofs.Notices.{short_notice}
 use Rattle.coap_block.specs.Around.{SeesEvent, SendsOut, IsSeen, AreSeen, AsksNoBlock, IsShort, IsPlain, ArePlain, no_blocks}
 
 -- no reply is awaited of which a block was asked for
@@ -53,7 +54,8 @@ sends_same old peer bytes leaves new whole short (inl reply) =
     let stays = answered_whole old.stored reply.asked reply.message (whole reply.asked reply.awaited) (short reply.message reply.is reply.spells) in
     let left = subst (λ answer. IsAnswered answer reply.asked reply.message old.stored leaves new.stored) stays reply.answered in
     (reply.spells ∙ sym left.0, subst AwaitsWhole (sym reply.over) awaits_none)
-sends_same old peer bytes leaves new whole short (inr other) = (sym other.1, subst (λ blocks. AwaitsWhole blocks.awaited) (sym other.2) whole)
+sends_same old peer bytes leaves new whole short (inr (inl notice)) = absurd (short_notice old.observed peer notice.message notice.observed notice.of (short notice.message notice.is notice.spells))
+sends_same old peer bytes leaves new whole short (inr (inr other)) = (sym other.1, subst (λ blocks. AwaitsWhole blocks.awaited) (sym other.2) whole)
 
 took_same : (old new : Blocks) (came seen : Event) (at time : ℕ) → seen ≡ came → time ≡ at → new ≡ record old { awaited = None } → (took seen time ≡ took came at) × AwaitsWhole new.awaited
 took_same old new came seen at time is now over = (ap (λ e. took e time) is ∙ ap (λ t. took came t) now, subst (λ blocks. AwaitsWhole blocks.awaited) (sym over) awaits_none)

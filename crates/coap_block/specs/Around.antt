@@ -48,13 +48,13 @@ seen_above (Some inner) log = if_told (nat_le (length log) (length inner)) (with
 
 -- ---- the relation
 
--- nothing is awaited and nothing is stored
+-- nothing is awaited, stored or observed
 abbrev pub no_blocks : Blocks
-no_blocks = record { awaited = None; stored = [] }
+no_blocks = record { awaited = None; stored = []; observed = [] }
 
--- An event came, and was seen so. Any event ends the waiting for a reply, and a restart forgets all bodies.
+-- An event came, and was seen so. Any event ends the waiting for a reply, and a restart forgets all bodies and observers.
 abbrev pub SeesEvent : Event → Event → Blocks → Blocks → Type 0
-SeesEvent (event.Datagram from bytes) (event.Datagram by seen) old new = (by ≡ from) × Sees from bytes seen new.awaited × (new.stored ≡ old.stored)
+SeesEvent (event.Datagram from bytes) (event.Datagram by seen) old new = (by ≡ from) × Sees from bytes seen new.awaited × (new.stored ≡ old.stored) × (new.observed ≡ old.observed)
 SeesEvent (event.Datagram from bytes) _ old new = ⊥
 SeesEvent event.Restart seen old new = (seen ≡ event.Restart) × (new ≡ no_blocks)
 SeesEvent came seen old new = (seen ≡ came) × (new ≡ record old { awaited = None })

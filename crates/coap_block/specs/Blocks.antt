@@ -1,10 +1,14 @@
--- Long answers in blocks (RFC 7959, sections 2.2 to 2.4): what is seen of a request, and what becomes of its reply.
-use Rattle.std.specs.Prelude.{◌≡◌, ℕ, ◌+◌, ◌*◌, ◌==◌, ◌&&◌, ◌⊎◌, not, nat_lt, nat_le, bytes_eq, if◌then◌else◌, Bool, true, false, List, [], ◌∷◌, ◌++◌, length, filter, find, take, drop, codes, Option, Some, None, ⊤}
+-- Long answers in blocks (RFC 7959, sections 2.2 to 2.4 and 2.6): what is seen of a request, and what becomes of its reply and of notifications.
+use Rattle.std.specs.Prelude.{◌≡◌, ℕ, ◌+◌, ◌*◌, ◌≤◌, ◌==◌, ◌&&◌, ◌⊎◌, not, nat_lt, nat_le, bytes_eq, if◌then◌else◌, Bool, true, false, List, [], ◌∷◌, ◌++◌, length, filter, find, take, drop, codes, Option, Some, None, ⊤}
+use Rattle.std.specs.List.{list_any}
+use Rattle.std.specs.Set.{remove_key}
+use Rattle.coap_message.specs.declared.option_numbers.TheConstants.{OBSERVE}
 use Rattle.coap_message.specs.Message.{CoapOption, CoapMessage, IsMessage, options_bytes, spelling}
 use Rattle.coap_block.specs.declared.block.BlockOption.{BlockOption}
 use Rattle.coap_block.specs.declared.asks.Asks.{Asks}
 use Rattle.coap_block.specs.declared.asks.Asks.TheVariants as asks
 use Rattle.coap_block.specs.declared.stored.StoredBody.{StoredBody}
+use Rattle.coap_block.specs.declared.observed.ObservedRequest.{ObservedRequest}
 use Rattle.coap_block.specs.declared.spelling.Which.TheVariants as which
 use Rattle.coap_block.specs.Option.{block_of, block_number, shortest, block_size, IsBlock}
 use Rattle.coap_block.specs.Spelling.{block_option, among, head_of}
@@ -17,10 +21,11 @@ pub record Asked : Type 0 where
   pub block : Option BlockOption
   pub request : List ℕ
 
--- the GET whose reply is awaited, and the bodies that are stored
+-- the GET whose reply is awaited, the bodies that are stored, and what is observed
 pub record Blocks : Type 0 where
   pub awaited : Option Asked
   pub stored : List StoredBody
+  pub observed : List ObservedRequest
 
 -- ---- requests
 
@@ -133,8 +138,8 @@ abbrev pub without_peer : ℕ → List StoredBody → List StoredBody
 without_peer peer stored = filter (λ body. not (body.peer == peer)) stored
 
 -- with the body as the one of its peer
-abbrev pub keeping : List StoredBody → Asked → List ℕ → List StoredBody
-keeping stored asked body = without_peer asked.peer stored ++ record { peer = asked.peer; request = asked.request; body = body } ∷ []
+abbrev pub keeping : List StoredBody → ℕ → List ℕ → List ℕ → List StoredBody
+keeping stored peer request body = without_peer peer stored ++ record { peer = peer; request = request; body = body } ∷ []
 
 -- what becomes of a reply
 pub data Answer : Type 0 where
@@ -178,8 +183,71 @@ IsAnswered same asked message old out new = (out ≡ spelling message) × (new �
 IsAnswered refused asked message old out new = (out ≡ spelling (refusal message)) × (new ≡ old)
 IsAnswered (later block body) asked message old out new = (out ≡ spelling (cut_to message block body)) × (new ≡ old)
 IsAnswered (first block) asked message old out new =
-    (out ≡ spelling (cut_to message block message.payload)) × (new ≡ keeping old asked message.payload)
+    (out ≡ spelling (cut_to message block message.payload)) × (new ≡ keeping old asked.peer asked.request message.payload)
     ⊎ (out ≡ spelling (unavailable message)) × (new ≡ without_peer asked.peer old)
+
+-- ---- observers
+
+-- with Observe (RFC 7641, section 2)
+abbrev pub has_observe : CoapMessage → Bool
+has_observe message = list_any (λ option. option.number == OBSERVE) message.options
+
+-- an observer is a peer and a token
+abbrev pub is_observer : ℕ → List ℕ → ObservedRequest → Bool
+is_observer peer token observed = observed.peer == peer && bytes_eq observed.token token
+
+abbrev pub without_observer : ℕ → List ℕ → List ObservedRequest → List ObservedRequest
+without_observer peer token observed = filter (λ one. not (is_observer peer token one)) observed
+
+abbrev pub is_of_peer : ℕ → ObservedRequest → Bool
+is_of_peer peer observed = observed.peer == peer
+
+abbrev pub observed_by : ℕ → List ObservedRequest → List ObservedRequest
+observed_by peer observed = filter (is_of_peer peer) observed
+
+-- no peer has more than 136
+abbrev pub AreFew : List ObservedRequest → Type 0
+AreFew observed = (peer : ℕ) → length (observed_by peer observed) ≤ 136
+
+-- with room for one more of the peer: of 136 that which was noted first goes
+abbrev pub with_room : ℕ → List ObservedRequest → List ObservedRequest
+with_room peer observed = if nat_lt (length (observed_by peer observed)) 136 then observed else remove_key (is_of_peer peer) observed
+
+-- the others, where this one is noted
+abbrev pub beside : Asked → List ObservedRequest → List ObservedRequest
+beside asked observed = with_room asked.peer (without_observer asked.peer asked.token observed)
+
+-- The request is observed by its peer and token from now on, or there is no memory to note it.
+abbrev pub IsNoted : Asked → List ObservedRequest → List ObservedRequest → Type 0
+IsNoted asked old new = (new ≡ beside asked old ++ record { peer = asked.peer; token = asked.token; request = asked.request } ∷ []) ⊎ (new ≡ beside asked old)
+
+-- A reply with Observe says that its request is observed (RFC 7641, section 3.1).
+abbrev pub Notes : Bool → Asked → List ObservedRequest → List ObservedRequest → Type 0
+Notes true asked old new = IsNoted asked old new
+Notes false asked old new = new ≡ old
+
+-- ---- notifications
+
+-- 2.05 with Observe, of which the payload is longer than 1,024 bytes, and what stands before it isn't
+abbrev pub is_long_notice : CoapMessage → Bool
+is_long_notice message = message.code == 69 && (nat_lt 1024 (length message.payload) && (nat_le (head_size message) 1024 && has_observe message))
+
+-- what is observed, where the message to the peer is a long notification of it
+abbrev pub noticed_in : List ObservedRequest → ℕ → CoapMessage → Option ObservedRequest
+noticed_in observed peer message = if is_long_notice message then find (is_observer peer message.token) observed else None
+
+-- It leaves as its first block, and its payload is stored as the body of what is observed. Where there is no memory to keep it, it stays, and the peer
+-- has no body.
+abbrev pub IsNotified : ObservedRequest → CoapMessage → List StoredBody → List ℕ → List StoredBody → Type 0
+IsNotified observed message old out new =
+    (out ≡ spelling (cut_to message first_block message.payload)) × (new ≡ keeping old observed.peer observed.request message.payload)
+    ⊎ (out ≡ spelling message) × (new ≡ without_peer observed.peer old)
+
+abbrev pub IsNoticed : Option ObservedRequest → CoapMessage → List StoredBody → List ℕ → List StoredBody → Type 0
+IsNoticed (Some observed) message old out new = IsNotified observed message old out new
+IsNoticed None message old out new = (out ≡ spelling message) × (new ≡ old)
+
+-- ---- sends
 
 -- the reply that was awaited was sent, and left so
 pub record Replies (old : Blocks) (peer : ℕ) (bytes out : List ℕ) (new : Blocks) : Type 0 where
@@ -190,12 +258,29 @@ pub record Replies (old : Blocks) (peer : ℕ) (bytes out : List ℕ) (new : Blo
   pub awaited : old.awaited ≡ Some asked
   pub reply : is_reply asked peer message ≡ true
   pub answered : IsAnswered (answer_of old.stored asked message) asked message old.stored out new.stored
+  pub noted : Notes (has_observe message) asked old.observed new.observed
   pub over : new.awaited ≡ None
 
--- no reply that is awaited
+-- it isn't the reply that is awaited
+abbrev pub IsNoReply : Blocks → ℕ → CoapMessage → Type 0
+IsNoReply old peer message = (asked : Asked) → old.awaited ≡ Some asked → is_reply asked peer message ≡ false
+
+-- a long notification of what is observed was sent, and left so
+pub record Notifies (old : Blocks) (peer : ℕ) (bytes out : List ℕ) (new : Blocks) : Type 0 where
+  pub message : CoapMessage
+  pub observed : ObservedRequest
+  pub is : IsMessage message
+  pub spells : bytes ≡ spelling message
+  pub no_reply : IsNoReply old peer message
+  pub of : noticed_in old.observed peer message ≡ Some observed
+  pub notified : IsNotified observed message old.stored out new.stored
+  pub awaits : new.awaited ≡ old.awaited
+  pub observes : new.observed ≡ old.observed
+
+-- neither the reply that is awaited nor a long notification
 abbrev pub IsOther : Blocks → ℕ → List ℕ → Type 0
-IsOther old peer bytes = (message : CoapMessage) (asked : Asked) → IsMessage message → bytes ≡ spelling message → old.awaited ≡ Some asked → is_reply asked peer message ≡ false
+IsOther old peer bytes = (message : CoapMessage) → IsMessage message → bytes ≡ spelling message → IsNoReply old peer message × (noticed_in old.observed peer message ≡ None)
 
 -- a datagram was sent to the peer, and left so
 abbrev pub Sends : Blocks → ℕ → List ℕ → List ℕ → Blocks → Type 0
-Sends old peer bytes out new = Replies old peer bytes out new ⊎ (IsOther old peer bytes × (out ≡ bytes) × (new ≡ old))
+Sends old peer bytes out new = Replies old peer bytes out new ⊎ Notifies old peer bytes out new ⊎ (IsOther old peer bytes × (out ≡ bytes) × (new ≡ old))

@@ -1,4 +1,5 @@
-ghost use Rattle.std.specs.Prelude.{◌≡◌, ◌≤◌, ℕ, List, length, option_map, Some, if◌then◌else◌};
+ghost use Rattle.std.specs.Prelude.{◌≡◌, ◌≤◌, ℕ, List, length, option_map, Some, true, false, IfSome, IfNone, if◌then◌else◌};
+ghost use Rattle.coap_block.specs.declared.awaiting.Awaiting as awaiting;
 ghost use Rattle.std.specs.Option.{ForSome};
 ghost use Rattle.coap_message.specs.Message.{spelling};
 ghost use Rattle.coap_block.specs.Blocks.{awaited_by, asked_for, is_reply, seen_of};
@@ -32,6 +33,20 @@ impl Awaiting {
             && message.id() == self.id
             && message.token() == self.token.bytes()
     }
+}
+
+/// The GET that is awaited, where the message to the peer is its reply.
+pub fn replied(awaited: Option<Awaiting>, peer: u32, message: &Message<'_>) -> Option<Awaiting>
+    ensures some { IfSome result (λ one. (awaited ≡ Some one)
+        × ((request : List ℕ) → is_reply (asked_with request one) peer message.now ≡ true)) }
+    ensures none { IfNone result ((one : awaiting.Awaiting) (request : List ℕ) → awaited ≡ Some one
+        → is_reply (asked_with request one) peer message.now ≡ false) }
+{
+    let one = awaited?;
+    if !one.is_reply(peer, message) {
+        return None;
+    }
+    Some(one)
 }
 
 /// The reply to a message is awaited from now on.

@@ -3,9 +3,12 @@
 ghost use Rattle.std.specs.Prelude.{◌≡◌, ◌≤◌, [], length, take, true, false, None, IfOk, if◌then◌else◌};
 ghost use Rattle.std.specs.Bool.{OnTrue};
 ghost use Rattle.coap_message.specs.Message.{payload_bytes};
-ghost use Rattle.coap_block.specs.Blocks.{Sees, Sends};
+ghost use Rattle.coap_block.specs.Blocks.{Sees, Sends, AreFew};
+ghost use Rattle.coap_block.specs.Around.{no_blocks};
 
-use crate::awaiting::{Awaiting, see_message};
+use crate::awaiting::{Awaiting, replied, see_message};
+use crate::noticing::notify;
+use crate::observed::{ObservedRequest, note_reply};
 use crate::replying::{MAX_STORED, answer_reply};
 use crate::room::Room;
 use crate::stored::StoredBody;
@@ -17,19 +20,21 @@ use std::marker::Model;
 /// The most bytes of a datagram that comes, and of one that is written here.
 pub const MOST: usize = 4096;
 
-/// The GET whose reply is awaited, and the bodies that are stored: at most one for each peer.
+/// The GET whose reply is awaited, the bodies that are stored, at most one for each peer, and what is observed.
 #[derive(Drop)]
 pub struct Cutting {
     room: Room,
     request: Room,
     awaited: Option<Awaiting>,
     stored: Vec<StoredBody>,
+    observed: Vec<ObservedRequest>,
 }
 
 impl Model for Cutting {
     ghost use Rattle.std.specs.Prelude.{◌≡◌, ◌≤◌, length, option_map};
     ghost use Rattle.std.specs.Option.{ForSome};
     ghost use Rattle.coap_block.specs.Knowing.{Known, asked_with, AsksBlock};
+    ghost use Rattle.coap_block.specs.Blocks.{AreFew};
 
     ghost Value = { Known };
 
@@ -37,18 +42,20 @@ impl Model for Cutting {
       blocks = record {
         awaited = option_map (asked_with cutting.request.filled) cutting.awaited;
         stored = cutting.stored.items;
+        observed = cutting.observed.items;
       };
       written = cutting.room.filled;
     } };
 
-    ghost invariant = { λ cutting. (cutting.room.most ≡ 4096) × (cutting.request.most ≡ 4096) × AsksBlock cutting.awaited × (length cutting.stored.items ≤ 64) };
+    ghost invariant = { λ cutting. (cutting.room.most ≡ 4096) × (cutting.request.most ≡ 4096) × AsksBlock cutting.awaited × (length cutting.stored.items ≤ 64)
+        × AreFew cutting.observed.items };
 }
 
 impl Cutting {
-    /// Nothing is awaited and nothing is stored. Takes the memory for what is written.
+    /// Nothing is awaited, stored or observed. Takes the memory for what is written.
     pub fn new(alloc: Global) -> Result<Cutting, NoMemory>
         ensures { IfOk result (λ cutting.
-            cutting ≡ record { blocks = record { awaited = None; stored = [] }; written = [] }) }
+            cutting ≡ record { blocks = no_blocks; written = [] }) }
     {
         let room = Room::new(alloc, MOST)?;
         let request = Room::new(alloc, MOST)?;
@@ -57,6 +64,7 @@ impl Cutting {
             request,
             awaited: None,
             stored: Vec::new(alloc),
+            observed: Vec::new(alloc),
         })
     }
 
@@ -73,6 +81,7 @@ impl Cutting {
         ensures sees { Sees peer datagram.now (if result then self.new.written else datagram.now) self.new.blocks.awaited }
         ensures shorter { OnTrue result (length self.new.written ≤ length datagram.now) }
         ensures stored { self.new.blocks.stored ≡ self.old.blocks.stored }
+        ensures observed { self.new.blocks.observed ≡ self.old.blocks.observed }
     {
         self.awaited = None;
         let Ok(message) = decode(datagram) else {
@@ -90,12 +99,13 @@ impl Cutting {
         self.awaited = None;
     }
 
-    /// A restart: nothing is awaited, and nothing is stored.
+    /// A restart: nothing is awaited, stored or observed.
     pub fn forget(&mut self)
-        ensures { self.new ≡ record self.old { blocks = record { awaited = None; stored = [] } } }
+        ensures { self.new ≡ record self.old { blocks = no_blocks } }
     {
         self.awaited = None;
         self.stored.clear();
+        self.observed.clear();
     }
 
     /// A datagram is sent to the peer: whether what leaves was written, or it leaves as it is.
@@ -103,22 +113,30 @@ impl Cutting {
         ensures sends { Sends self.old.blocks peer bytes.now
             (if result then self.new.written else bytes.now) self.new.blocks }
         ensures few { length self.new.blocks.stored ≤ MAX_STORED }
+        ensures known { AreFew self.new.blocks.observed }
     {
-        let Some(awaited) = self.awaited else {
-            return false;
-        };
+        let awaited = self.awaited;
         let Ok(message) = decode(bytes) else {
             return false;
         };
-        if !awaited.is_reply(peer, &message) {
-            return false;
-        }
-        self.awaited = None;
         let before = bytes.len() - payload_len(message.payload());
+        let Some(awaited) = replied(awaited, peer, &message) else {
+            return notify(
+                &mut self.room,
+                &mut self.stored,
+                self.observed.as_slice(),
+                peer,
+                &message,
+                before,
+            );
+        };
+        self.awaited = None;
+        let request = self.request.bytes();
+        note_reply(&mut self.observed, request, &awaited, &message);
         answer_reply(
             &mut self.room,
             &mut self.stored,
-            self.request.bytes(),
+            request,
             &awaited,
             &message,
             before,

@@ -9,7 +9,8 @@ use dots_host::{Failed, Got, NoMemory, Out, Sent, Wire};
 use std::alloc::Global;
 use std::marker::Model;
 
-/// A host around a host: requests are handed in without Block2, and replies leave cut into the blocks that were asked for.
+/// A host around a host: requests are handed in without Block2, replies leave cut into the blocks that were asked for, and long notifications leave as
+/// their first blocks.
 ///
 /// Each call makes one call of the host inside, so moments and faults are its own.
 #[derive(Drop)]
@@ -28,7 +29,7 @@ impl<H> Model for BlockHost<H> {
 }
 
 impl<H: Host> BlockHost<H> {
-    /// A host around this one. Nothing is awaited and nothing is stored. Hands the host back where there is no memory.
+    /// A host around this one. Nothing is awaited, stored or observed. Hands the host back where there is no memory.
     pub fn new(alloc: Global, inner: H) -> Result<BlockHost<H>, H>
         ensures ok { IfOk result (λ host. host ≡ record { inner = inner; log = []; blocks = no_blocks }) }
         ensures err { IfErr result (λ host. host ≡ inner) }

@@ -1,9 +1,9 @@
 //! What becomes of a reply.
 
-ghost use Rattle.std.specs.Prelude.{◌≡◌, ◌≤◌, ◌<◌, ◌==◌, ◌&&◌, ◌++◌, [], ◌∷◌, bytes_eq, List, length, find, OnOk, OnErr, if◌then◌else◌};
+ghost use Rattle.std.specs.Prelude.{◌≡◌, ◌≤◌, ◌<◌, ◌==◌, ◌&&◌, bytes_eq, List, length, find, OnOk, OnErr, if◌then◌else◌};
 ghost use Rattle.std.specs.Option.{ForSome, option_copied};
 ghost use Rattle.coap_message.specs.Message.{spelling};
-ghost use Rattle.coap_block.specs.Blocks.{IsAnswered, Asked, answer_of, wanted_block, block_answer, later_of, head_size, stored_for, body_or, without_peer};
+ghost use Rattle.coap_block.specs.Blocks.{IsAnswered, Asked, answer_of, wanted_block, block_answer, later_of, head_size, stored_for, body_or, keeping, without_peer};
 ghost use Rattle.coap_block.specs.Blocks.{first};
 ghost use Rattle.coap_block.specs.declared.stored.StoredBody.{StoredBody};
 ghost use Rattle.coap_block.specs.Knowing.{asked_with};
@@ -22,7 +22,14 @@ use dots_lists::{Bytes, NoMemory};
 const LARGEST: u8 = 6;
 
 /// The most bytes of a payload that isn't cut unasked, and of what stands before a payload that is cut.
-const MOST_WHOLE: usize = 1024;
+pub const MOST_WHOLE: usize = 1024;
+
+/// The first block of 1,024 bytes, to which a payload is cut unasked.
+pub const FIRST_BLOCK: BlockOption = BlockOption {
+    number: 0,
+    more: false,
+    exponent: LARGEST,
+};
 
 /// The most peers of which a body is stored.
 pub const MAX_STORED: usize = 64;
@@ -39,11 +46,7 @@ fn wanted_block(asked: Option<BlockOption>, payload: &[u8]) -> Option<BlockOptio
     if payload.len() <= MOST_WHOLE {
         return None;
     }
-    Some(BlockOption {
-        number: 0,
-        more: false,
-        exponent: LARGEST,
-    })
+    Some(FIRST_BLOCK)
 }
 
 /// The body that is stored for this peer and this request.
@@ -62,15 +65,14 @@ fn retain_others(stored: &mut Vec<StoredBody>, peer: u32)
 }
 
 /// Keeps a body as the one of its peer. For want of memory the peer has none.
-fn keep(
+pub fn keep(
     stored: &mut Vec<StoredBody>,
     peer: u32,
     request: &[u8],
     body: &[u8],
 ) -> Result<(), NoMemory>
     requires few { length stored.old.items ≤ MAX_STORED }
-    ensures ok { OnOk result (stored.new.items
-        ≡ without_peer peer stored.old.items ++ record { peer = peer; request = request.now; body = body.now } ∷ []) }
+    ensures ok { OnOk result (stored.new.items ≡ keeping stored.old.items peer request.now body.now) }
     ensures err { OnErr result (stored.new.items ≡ without_peer peer stored.old.items) }
     ensures few { length stored.new.items ≤ MAX_STORED }
 {

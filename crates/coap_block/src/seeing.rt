@@ -16,6 +16,7 @@ fn see_datagram(cutting: &mut Cutting, from: u32, len: usize, room: &mut [u8]) -
     requires within { len ≤ MAX_EVENT_BYTES }
     ensures sees { Sees from (take len room.old) (take result room.new) cutting.new.blocks.awaited }
     ensures stored { cutting.new.blocks.stored ≡ cutting.old.blocks.stored }
+    ensures observed { cutting.new.blocks.observed ≡ cutting.old.blocks.observed }
     ensures within { result ≤ len }
 {
     if !cutting.see(from, &room[..len]) {
