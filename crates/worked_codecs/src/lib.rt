@@ -16,6 +16,8 @@ mod beat_rows;
 #[cfg(test)]
 mod block_exchanges;
 #[cfg(test)]
+mod block_notices;
+#[cfg(test)]
 mod body_rows;
 #[cfg(test)]
 mod cbor_examples;
