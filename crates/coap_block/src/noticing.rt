@@ -35,7 +35,7 @@ fn cut_notice(
     requires few { length stored.old.items ≤ MAX_STORED }
     requires room { room.old.most ≡ 4096 }
     ensures notified { IsNotified observed.now message.now stored.old.items
-        (if result then room.new.held else spelling message.now) stored.new.items }
+        (if result then room.new.filled else spelling message.now) stored.new.items }
     ensures few { length stored.new.items ≤ MAX_STORED }
     ensures most { room.new.most ≡ room.old.most }
 {
@@ -61,7 +61,7 @@ pub fn notify(
     requires few { length stored.old.items ≤ MAX_STORED }
     requires room { room.old.most ≡ 4096 }
     ensures noticed { IsNoticed (noticed_in observed.now peer message.now) message.now stored.old.items
-        (if result then room.new.held else spelling message.now) stored.new.items }
+        (if result then room.new.filled else spelling message.now) stored.new.items }
     ensures few { length stored.new.items ≤ MAX_STORED }
     ensures most { room.new.most ≡ room.old.most }
 {
