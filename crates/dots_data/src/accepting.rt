@@ -12,7 +12,7 @@ use data_channel::RestRequest;
 use dots_history::Entry;
 use dots_lists::NoMemory;
 use installed_filters::Staged;
-use rest_answers::{Caller, RestAnswer, RestReply, entry_of, decision_reply};
+use rest_answers::{Caller, RestAnswer, RestReply, decision_reply, entry_of};
 use rest_judging::RestDecision;
 
 /// The answer to a request that is accepted with this outcome.

@@ -37,7 +37,12 @@ struct Due {
 /// Notifies each observer that is due of what there is to see now, in the order of registration (RFC 7641, section 4.2; RFC 9132, section
 /// 4.4.2.1). Those alone are looked at among whom one may be due. One whose notification can't be made is passed over, and stays due.
 /// Whether a notification left makes no difference.
-pub fn notify<H: Host, S: ViewBodies>(host: &mut H, alloc: Global, watch: &mut Watch, view_bodies: &S)
+pub fn notify<H: Host, S: ViewBodies>(
+    host: &mut H,
+    alloc: Global,
+    watch: &mut Watch,
+    view_bodies: &S,
+)
     ensures notified { (sends : List OwnedOut)
         × Notifies (S.Views.lists view_bodies.now) (S.bodies view_bodies.now) watch.old.observers.observed watch.old.sessions sends watch.new.observers.observed watch.new.sessions
         × Added (H.acts host.old) (H.acts host.new) (SentTo (H.moment host.old) (H.moment host.new) sends) }
@@ -78,7 +83,12 @@ fn due_behind(passed_over: bool) -> DueAmong
 }
 
 /// The first notification, from the place on, that is due.
-fn next_notice<S: ViewBodies>(alloc: Global, watch: &Watch, view_bodies: &S, from: usize) -> Option<Due>
+fn next_notice<S: ViewBodies>(
+    alloc: Global,
+    watch: &Watch,
+    view_bodies: &S,
+    from: usize,
+) -> Option<Due>
     ensures next { MatchOption result (NoneIsDue (S.Views.lists view_bodies.now) watch.now.due from (length watch.now.observers.observed) watch.now.observers.observed)
         (λ due. (one : ObservedValue) × (slice_get watch.now.observers.observed due.place ≡ Some one)
         × (due.place < length watch.now.observers.observed) × (from ≤ due.place) × (is_due (S.Views.lists view_bodies.now) one ≡ true)
@@ -140,7 +150,12 @@ fn bytes_of<S: ViewBodies>(
 
 /// Notifies the observer at the place exactly where its notification could be made, and answers from which place on the next one is looked
 /// for.
-fn notify_one<H: Host, S: ViewBodies>(host: &mut H, watch: &mut Watch, view_bodies: &S, due: Due) -> usize
+fn notify_one<H: Host, S: ViewBodies>(
+    host: &mut H,
+    watch: &mut Watch,
+    view_bodies: &S,
+    due: Due,
+) -> usize
     requires within { due.place < length watch.old.observers.observed }
     requires few { due.place + 1 < 2 ^ 64 }
     requires made { (one : ObservedValue) → slice_get watch.old.observers.observed due.place ≡ Some one

@@ -9,8 +9,8 @@ mod receiving;
 mod replies;
 
 pub use configurations::config_in;
-pub use entries::{copies, entry_of, config_entry};
-pub use long_replies::{configuration_reply, conflicting, showing, retrieved_body};
+pub use entries::{config_entry, copies, entry_of};
+pub use long_replies::{configuration_reply, conflicting, retrieved_body, showing};
 pub use receiving::receive;
 pub use replies::{
     absent, at_capacity, bad_parameter, bad_request, bad_target, configuring, deleted, granting,

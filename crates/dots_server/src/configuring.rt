@@ -25,7 +25,7 @@ use dots_history::{Change, Config};
 use dots_keys::ConfigBody;
 use dots_lists::NoMemory;
 use dots_replies::{
-    absent, configuration_reply, configuring, deleted, older_sid, out_of_range, config_entry,
+    absent, config_entry, configuration_reply, configuring, deleted, older_sid, out_of_range,
 };
 use dots_settings::NO_DOMAIN;
 use session_core::{ConfigFault, negotiate};

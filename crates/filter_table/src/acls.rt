@@ -94,7 +94,10 @@ fn place_after(place: u64, placed: &[PlacedAcl]) -> usize
     ensures value { result ≡ prefix_len (λ other. nat_le other.place place) placed.now }
     ensures within { result ≤ length placed.now }
 {
-    placed.iter().take_while(|other| other.place <= place).count()
+    placed
+        .iter()
+        .take_while(|other| other.place <= place)
+        .count()
 }
 
 /// Whether the row is that of this client's list of this name.

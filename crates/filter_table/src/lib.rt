@@ -14,9 +14,9 @@
 mod acls;
 mod fates;
 mod greater;
-mod placed;
 pub mod laws;
 mod marks;
+mod placed;
 mod rows;
 mod scrubs;
 mod slot_rows;

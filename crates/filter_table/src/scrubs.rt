@@ -9,8 +9,8 @@ ghost use Rattle.filter_table.specs.Laws.{AreInOrder};
 ghost use Rattle.filter_table.specs.Rows.{gathered, place_of_turn, turn_at_place, mark_of, is_turn, IsTied};
 
 use crate::greater::greatest_covered;
-use crate::placed::number_after;
 use crate::marks::{first_of, mark_of, marks_of, wake_marked};
+use crate::placed::number_after;
 use crate::rows::ScrubRows;
 use crate::slot_rows::{all_slots, empty_slot, empty_slots, fill_slot, row_in};
 use crate::turn::Turn;

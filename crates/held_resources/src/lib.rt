@@ -14,6 +14,7 @@
 //! configures a session, or says that a signal is lost or back, takes time in the peers of the settings, and so does asking for these.
 #![tactic(auto)]
 
+mod configurations;
 mod domain_clients;
 mod kind;
 pub mod laws;
@@ -24,7 +25,6 @@ mod resources;
 mod rooms;
 mod row;
 mod rows;
-mod configurations;
 mod signals;
 mod size;
 

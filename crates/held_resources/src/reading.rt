@@ -4,8 +4,8 @@ ghost use Rattle.std.specs.Prelude.{◌≡◌, option_copied, option_map, is_som
 ghost use Rattle.dots_laws.specs.Held.{alias_named, acl_named};
 ghost use Rattle.held_resources.specs.Tables.{registrant_in, aliases_in, acls_in, config_in, config_now};
 
-use crate::registered_client::RegisteredClient;
 use crate::configurations::Configuration;
+use crate::registered_client::RegisteredClient;
 use acl_lists::{Acl, Alias};
 use dots_history::Config;
 use dots_lists::Name;

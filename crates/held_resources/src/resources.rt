@@ -16,6 +16,7 @@ ghost use Rattle.held_resources.specs.Rows.{rows_with, rows_more, slots_in};
 ghost use Rattle.held_resources.specs.Sizes.{most_held};
 ghost use Rattle.held_resources.specs.Accepting.{accepts, accepts_by, FitsIn, Takes, rightly, takes_in};
 
+use crate::configurations::{Configuration, configure, no_configurations};
 use crate::domain_clients::DomainClients;
 use crate::kind::RoomKind;
 use crate::reading::{
@@ -24,7 +25,6 @@ use crate::reading::{
 use crate::registered_client::RegisteredClient;
 use crate::rooms::Rooms;
 use crate::rows::HeldSlots;
-use crate::configurations::{Configuration, configure, no_configurations};
 use crate::signals::{Signal, has_lost, has_signal, is_lost, no_losses, note};
 use crate::size::most_held;
 use acl_lists::{Acl, Alias};
@@ -201,7 +201,9 @@ impl HeldResources {
     fn configuration(&self, peer: u32) -> Option<&Configuration>
         ensures { option_copied result ≡ find (λ configuration. peer == configuration.peer) self.now.configurations }
     {
-        self.configurations.iter().find(|configuration| peer == configuration.peer)
+        self.configurations
+            .iter()
+            .find(|configuration| peer == configuration.peer)
     }
 
     /// Whether the signal of this peer is lost, in whichever domain it is a client of.
@@ -361,7 +363,9 @@ fn registers_rightly(change: &Change, registered: bool) -> bool
 fn has_peer(configurations: &[Configuration], peer: u32) -> bool
     ensures { result ≡ list_any (λ configuration. peer == configuration.peer) configurations.now }
 {
-    configurations.iter().any(|configuration| peer == configuration.peer)
+    configurations
+        .iter()
+        .any(|configuration| peer == configuration.peer)
 }
 
 fn most_of(rooms: Rooms, kind: RoomKind) -> usize

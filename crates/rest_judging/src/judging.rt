@@ -4,8 +4,8 @@ ghost use Rattle.std.specs.Prelude.{◌≡◌};
 ghost use Rattle.rest_judging.specs.Judging.{made, of_client, of_one, of_resource, judge};
 
 use crate::asking::{RestKind, RestVerb};
-use crate::facts::RestFacts;
 use crate::decision::RestDecision;
+use crate::facts::RestFacts;
 
 /// What is decided on a request of this verb and kind, by what is known.
 pub fn judge(verb: RestVerb, kind: RestKind, facts: RestFacts) -> RestDecision

@@ -8,11 +8,11 @@
 #![tactic(auto)]
 
 mod asking;
+mod decision;
 mod facts;
 mod judging;
-mod decision;
 
 pub use asking::{RestKind, RestVerb, cuid_of, kind_of, name_of, verb_of};
+pub use decision::{RestDecision, status_of_reject};
 pub use facts::RestFacts;
 pub use judging::judge;
-pub use decision::{RestDecision, status_of_reject};

@@ -115,7 +115,10 @@ impl<B: Buffers + Drop> StreamTable<B> {
     }
 }
 
-fn empty_rows<B: Buffers + Drop>(alloc: Global, settings: &Settings) -> Result<Vec<Row<B>>, NoMemory>
+fn empty_rows<B: Buffers + Drop>(
+    alloc: Global,
+    settings: &Settings,
+) -> Result<Vec<Row<B>>, NoMemory>
     ensures { IfOk result (λ rows. rows.items ≡ flat_map no_lines settings.now.peers) }
 {
     let mut rows = Vec::new(alloc);

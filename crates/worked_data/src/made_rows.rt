@@ -3,7 +3,7 @@
 use data_channel::RestRequest;
 use dots_history::{Change, Entry};
 use dots_lists::{Bytes, Name};
-use rest_answers::{Caller, content_reply, entry_of, decision_reply};
+use rest_answers::{Caller, content_reply, decision_reply, entry_of};
 use rest_judging::RestDecision;
 use std::alloc::Global;
 
