@@ -6,3 +6,4 @@ pub mod Gathered
 pub mod Bests
 pub mod Found
 pub mod RowsInSlots
+pub mod BlocksGone

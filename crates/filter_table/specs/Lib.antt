@@ -4,3 +4,4 @@ pub mod Laws
 pub mod Rows
 pub mod Slots
 pub mod Best
+pub mod Blocks

@@ -12,6 +12,7 @@
 #![tactic(auto)]
 
 mod acls;
+mod blocks;
 mod fates;
 mod greater;
 pub mod laws;

@@ -1,13 +1,16 @@
 //! The rows of mitigations, each in a slot of its own.
 
-ghost use Rattle.std.specs.Prelude.{◌≡◌, ℕ, ◌<◌, ◌≤◌, ◌^◌, [], None, Some, true, false, map, filter, length, nat_le, nat_lt, option_map, IsSome, IfSome, IfNone, IfOk, vec_capacity};
+ghost use Rattle.std.specs.Prelude.{◌≡◌, ℕ, ◌<◌, ◌≤◌, ◌^◌, [], None, Some, true, false, map, filter, length, nat_le, nat_lt, not, option_map, IsSome, IfSome, IfNone, IfOk, vec_capacity};
 ghost use Rattle.std.specs.List.{prefix_len, position, insert, remove, AllByRecursion};
 ghost use Rattle.filter_rows.specs.Fates.{scrubbing_mid};
 ghost use Rattle.prefix_ranks.specs.Ranks.{kind_of, ranked, is_of_kind, slot_of};
 ghost use Rattle.filter_table.specs.TableRows.{ScrubsValue, scrub_in, with_scrub, without_mitigation, woken, renumbered, scrub_at_place, place_of_scrub, rank_of, row_of_scrub, active_rows};
 ghost use Rattle.filter_table.specs.Laws.{AreInOrder};
+ghost use Rattle.prefix_ranks.specs.Sifting.{is_between};
+ghost use Rattle.filter_table.specs.Blocks.{stays_outside};
 ghost use Rattle.filter_table.specs.Rows.{gathered, place_of_turn, turn_at_place, mark_of, is_turn, IsTied};
 
+use crate::blocks::{are_of, cut_turns, empty_run, ends_of};
 use crate::greater::greatest_covered;
 use crate::marks::{first_of, mark_of, marks_of, wake_marked};
 use crate::placed::number_after;
@@ -137,10 +140,46 @@ impl Scrubs {
         }
     }
 
+    /// Takes the rows out whose places are neither below the first number nor above the other. What stands behind them is
+    /// moved once.
+    fn keep_outside(&mut self, low: u64, high: u64)
+        requires { low ≤ high }
+        ensures { self.new ≡ record { room = self.old.room; placed = filter (stays_outside low high) self.old.placed } }
+    {
+        let run = run_between(low, high, self.turns.as_slice());
+        empty_run(run, &mut self.rows, &mut self.free);
+        cut_between(low, high, &mut self.turns);
+        self.ranking.keep_outside(low, high);
+        self.marks.keep_outside(low, high);
+    }
+
+    /// Whether each row whose place is neither below the first number nor above the other is one of this mitigation.
+    fn has_run(&self, low: u64, high: u64, domain: u16, cuid: &[u8], mid: u32) -> bool
+        requires { low ≤ high }
+        ensures { result ≡ true → without_mitigation domain cuid.now mid (filter (stays_outside low high) self.now.placed) ≡ without_mitigation domain cuid.now mid self.now.placed }
+    {
+        let run = run_between(low, high, self.turns.as_slice());
+        are_of(run, self.rows.as_slice(), domain, cuid, mid)
+    }
+
+    /// Takes the rows of this mitigation out at once, where none of another one stands between its first and its last.
+    fn remove_block(&mut self, domain: u16, cuid: &[u8], mid: u32)
+        ensures room { self.new.room ≡ self.old.room }
+        ensures others { without_mitigation domain cuid.now mid self.new.placed ≡ without_mitigation domain cuid.now mid self.old.placed }
+    {
+        let Some((low, high)) = ends_of(marks_of(&self.marks, domain, mid)) else {
+            return;
+        };
+        if low <= high && self.has_run(low, high, domain, cuid, mid) {
+            self.keep_outside(low, high);
+        }
+    }
+
     /// Takes each row of this mitigation out.
     pub fn remove(&mut self, domain: u16, cuid: &[u8], mid: u32)
         ensures { self.new ≡ record { room = self.old.room; placed = without_mitigation domain cuid.now mid self.old.placed } }
     {
+        self.remove_block(domain, cuid, mid);
         while self.remove_one(domain, cuid, mid) {}
     }
 
@@ -243,6 +282,31 @@ fn turns_before(place: u64, turns: &[Turn]) -> usize
     ensures within { result ≤ length turns.now }
 {
     turns.partition_point(|other| other.place < place)
+}
+
+/// The turns whose places are neither below the first number nor above the other.
+fn run_between(low: u64, high: u64, turns: &[Turn]) -> &[Turn]
+    requires numbers { low ≤ high }
+    requires in_order { AreInOrder place_of_turn turns.now }
+    ensures { result.now ≡ filter (λ turn. is_between low high turn.place) turns.now }
+{
+    let start = turns_before(low, turns);
+    let end = place_after(high, turns);
+    let (_, rest) = turns.split_at(start);
+    let (run, _) = rest.split_at(end - start);
+    run
+}
+
+/// Takes those turns out.
+fn cut_between(low: u64, high: u64, turns: &mut Vec<Turn>)
+    requires numbers { low ≤ high }
+    requires in_order { AreInOrder place_of_turn turns.old.items }
+    ensures items { turns.new.items ≡ filter (λ turn. not (is_between low high turn.place)) turns.old.items }
+    ensures capacity { vec_capacity turns.new ≡ vec_capacity turns.old }
+{
+    let start = turns_before(low, turns.as_slice());
+    let end = place_after(high, turns.as_slice());
+    cut_turns(turns, start, end);
 }
 
 /// Puts a turn in at this position, for which there is room.

@@ -6,3 +6,4 @@ pub mod Counting
 pub mod Runs
 pub mod Covered
 pub mod BesideRanks
+pub mod Sifted

@@ -1,5 +1,5 @@
 -- The ranks of one level, and those of one number among them.
-use Rattle.std.proofs.Common.{◌≡◌, ℕ, ◌+◌, ◌<◌, ◌≤◌, ◌^◌, ◌%◌, Bool, true, false, cond, ◌==◌, nat_lt, List, [], ◌∷◌, map, filter, length, take, drop, zero, suc, refl, sym, ap, ◌∙◌, arith, one-add, add-one, subst, inl, inr}
+use Rattle.std.proofs.Common.{◌≡◌, ℕ, ◌+◌, ◌<◌, ◌≤◌, ◌^◌, ◌%◌, Bool, true, false, cond, ◌==◌, nat_lt, List, [], ◌∷◌, map, filter, length, take, drop, refl, sym, ap, ◌∙◌, arith, one-add, add-one, subst, inl, inr}
 use Rattle.std.specs.List.{prefix_len, AllByRecursion}
 use Rattle.std.proofs.lemmas.Bool.{cases_eq, ne_eqb, eq-eqb, eqb-true}
 use Rattle.std.proofs.lemmas.List.{drop-map}
@@ -10,7 +10,7 @@ use Rattle.prefix_ranks.specs.Numbers.{low_of, number_of, Falls}
 use Rattle.prefix_ranks.specs.Levels.{joined, levels_of}
 use Rattle.prefix_ranks.specs.Laws.{AreRanked}
 use Rattle.prefix_ranks.specs.Covers.{IsShort}
-use Rattle.prefix_ranks.proofs.Each.{each_weaker, each_both, each_map}
+use Rattle.prefix_ranks.proofs.Each.{each_weaker, each_both}
 use Rattle.prefix_ranks.proofs.Ranked.{map_part}
 
 -- ---- the first level
@@ -77,7 +77,7 @@ each_filtered P p [] all = all
 each_filtered P p (x ∷ xs) all =
     elim (p x) as (λ v. AllByRecursion P (cond v (x ∷ filter p xs) (filter p xs))) [ true ↦ (all.0, each_filtered P p xs all.1) | false ↦ each_filtered P p xs all.1 ]
 
-filtered_in_order : (p : Rank → Bool) (xs : List Rank) → AreRanked xs → AreRanked (filter p xs)
+pub filtered_in_order : (p : Rank → Bool) (xs : List Rank) → AreRanked xs → AreRanked (filter p xs)
 filtered_in_order p [] order = order
 filtered_in_order p (x ∷ xs) order =
     elim (p x) as (λ v. AreRanked (cond v (x ∷ filter p xs) (filter p xs))) [

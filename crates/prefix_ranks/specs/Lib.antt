@@ -4,3 +4,4 @@ pub mod Levels
 pub mod Laws
 pub mod Covers
 pub mod Beside
+pub mod Sifting

@@ -2,7 +2,8 @@
 //!
 //! A [`Rank`] is what the order looks at. Contracts see a [`Ranking`] as the list of its ranks, and a [`Covering`] as the slots
 //! of those whose prefix has an address. Beside the ranks stand their numbers and slots, and how many ranks each length has, so
-//! a search compares plain numbers and looks at no length without ranks. Only [`Ranking::new`] takes memory.
+//! a search compares plain numbers and looks at no length without ranks. Ranks of places that follow one another go in one pass
+//! ([`Ranking::keep_outside`]), in which each of the others is moved once. Only [`Ranking::new`] takes memory.
 //!
 //! Start reading at `specs/Ranks.antt`, and for what an address is covered by at `specs/Covers.antt`.
 #![tactic(auto)]
@@ -13,6 +14,7 @@ pub mod laws;
 mod level;
 mod rank;
 mod ranking;
+mod sifting;
 
 pub use covering::Covering;
 pub use rank::{Rank, kind_of};
