@@ -26,12 +26,12 @@ passed : (previous : Option ℕ) (segment : List ℕ) (options : List CoapOption
     → first_critical previous (uri_path segment ∷ options) ≡ first_critical (Some 11) options
 passed previous segment options le = rw (path_length (length segment) le) refl
 
-name_length : (name : List ℕ) → IsTrue (is_name name) → length name ≤ 64
+pub name_length : (name : List ℕ) → IsTrue (is_name name) → length name ≤ 64
 name_length name is =
     let parts = and_parts (nat_le 1 (length name) && nat_le (length name) 64) (list_all is_ascii_graphic name) is in
     leb-true (length name) 64 (and_parts (nat_le 1 (length name)) (nat_le (length name) 64) parts.0).1
 
-client_length : (cuid : List ℕ) → IsTrue (is_client_name cuid) → length (codes "cuid=" ++ cuid) ≤ 255
+pub client_length : (cuid : List ℕ) → IsTrue (is_client_name cuid) → length (codes "cuid=" ++ cuid) ≤ 255
 client_length cuid is =
     let few = name_length cuid (and_parts (is_name cuid) _ is).0 in
     let sum = length-append (codes "cuid=") cuid in
@@ -40,21 +40,21 @@ client_length cuid is =
 number_length : (mid : ℕ) → mid < 2 ^ 32 → length (decimal mid) ≤ 10
 number_length mid below = length-decimal-le 10 mid (omega arith) (omega (arith, below)) (omega (arith, below))
 
-mid_length : (mid : ℕ) → mid < 2 ^ 32 → length (codes "mid=" ++ decimal mid) ≤ 255
+pub mid_length : (mid : ℕ) → mid < 2 ^ 32 → length (codes "mid=" ++ decimal mid) ≤ 255
 mid_length mid below =
     let few = number_length mid below in
     let sum = length-append (codes "mid=") (decimal mid) in
     omega (arith, sum, few)
 
 -- the number before what stands behind these segments
-abbrev after : Option ℕ → List (List ℕ) → Option ℕ
+abbrev pub after : Option ℕ → List (List ℕ) → Option ℕ
 after previous [] = previous
 after previous (segment ∷ segments) = after (Some 11) segments
 
-abbrev AreShort : List (List ℕ) → Type 0
+abbrev pub AreShort : List (List ℕ) → Type 0
 AreShort segments = AllByRecursion (λ (segment : List ℕ). length segment ≤ 255) segments
 
-passed_all : (previous : Option ℕ) (segments : List (List ℕ)) (options : List CoapOption) → AreShort segments
+pub passed_all : (previous : Option ℕ) (segments : List (List ℕ)) (options : List CoapOption) → AreShort segments
     → first_critical previous (map uri_path segments ++ options) ≡ first_critical (after previous segments) options
 passed_all previous [] options short = refl
 passed_all previous (segment ∷ segments) options short =
@@ -66,10 +66,10 @@ recognised cuid mid options named below =
     passed_all None (path_of (mitigation None (Some cuid) (Some (decimal mid)))) options
     (omega arith, (omega arith, (omega arith, (client_length cuid named, (mid_length mid below, tt)))))
 
-client_back : (cuid : List ℕ) → IsTrue (is_client_name cuid) → client_name cuid ≡ Ok cuid
+pub client_back : (cuid : List ℕ) → IsTrue (is_client_name cuid) → client_name cuid ≡ Ok cuid
 client_back cuid named = cond-true (is_client_name cuid) (Ok cuid) (Err reject.Parameter) named
 
-mid_back : (mid : ℕ) → mid < 2 ^ 32 → identifier (decimal mid) ≡ Ok mid
+pub mid_back : (mid : ℕ) → mid < 2 ^ 32 → identifier (decimal mid) ≡ Ok mid
 mid_back mid below =
     let numeral = decimal_is_IsNumeral mid (omega (arith, below)) in
     identifies (decimal mid) mid numeral.0.1 numeral.1 numeral.0.0 (number_length mid below) below

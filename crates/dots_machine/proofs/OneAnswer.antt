@@ -39,11 +39,11 @@ after_marker : (payload : List ℕ) → AreBytes (payload_bytes payload) → Are
 after_marker [] are = are
 after_marker (b ∷ bs) are = behind (0xff ∷ []) (b ∷ bs) are
 
-payload_are_bytes : (datagram : List ℕ) (m : CoapMessage) → datagram ≡ spelling m → AreBytes datagram → AreBytes m.payload
+pub payload_are_bytes : (datagram : List ℕ) (m : CoapMessage) → datagram ≡ spelling m → AreBytes datagram → AreBytes m.payload
 payload_are_bytes datagram m is are =
     after_marker m.payload (behind (header m.kind m.code m.identifier m.token ++ options_bytes 0 m.options) (payload_bytes m.payload) (subst AreBytes is are))
 
-reads_once : (payload : List ℕ) → AreBytes payload → OneReading payload
+pub reads_once : (payload : List ℕ) → AreBytes payload → OneReading payload
 reads_once payload are =
     let image_has = short_bytes payload are.0 are.1 in
     record {

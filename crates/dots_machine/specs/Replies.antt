@@ -4,7 +4,6 @@ use Rattle.cbor_profile.specs.Canon.{canon}
 use Rattle.cbor_profile.specs.Tree.{Tree, unsigned}
 use Rattle.coap_message.specs.declared.codes.TheConstants.{CREATED, DELETED, CHANGED, CONTENT, BAD_REQUEST, NOT_FOUND, CONFLICT, UNPROCESSABLE_ENTITY, INTERNAL_SERVER_ERROR, SERVICE_UNAVAILABLE}
 use Rattle.coap_message.specs.Message.{CoapOption, spelling}
-use Rattle.dots_heads.specs.declared.reject.Reject.{Reject}
 use Rattle.dots_heads.specs.declared.reject.Reject.TheVariants as reject
 use Rattle.dots_heads.specs.declared.request.Content.{Content}
 use Rattle.dots_heads.specs.declared.request.Content.TheVariants.{Config, State}

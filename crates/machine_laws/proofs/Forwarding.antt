@@ -1,10 +1,7 @@
 -- What a gateway passes on for a client is read as the client's request for the domain.
-use Rattle.std.specs.Prelude.{IsTrue, if◌then◌else◌, nat_le}
-use Rattle.std.specs.List.{AllByRecursion, list_all}
-use Rattle.std.specs.Char.{is_ascii_graphic}
-use Rattle.std.proofs.Common.{◌≡◌, ℕ, ℤ, ◌<◌, ◌≤◌, ◌^◌, ◌&&◌, Bool, true, false, List, [], ◌∷◌, ◌++◌, map, length, codes, decimal, Option, Some, None, Ok, Err, refl, sym, ap, ◌∙◌, subst, arith}
-use Rattle.std.proofs.lemmas.Bool.{cond-true, and_parts, leb-true, le-leb}
-use Rattle.std.proofs.lemmas.Fmt.{length-decimal-le, decimal_is_IsNumeral}
+use Rattle.std.specs.Prelude.{IsTrue, if◌then◌else◌}
+use Rattle.std.proofs.Common.{◌≡◌, ℕ, ℤ, ◌<◌, ◌≤◌, ◌^◌, Bool, true, false, List, [], ◌∷◌, ◌++◌, map, length, codes, decimal, Some, None, Ok, Err, refl, sym, ap, ◌∙◌, subst, arith}
+use Rattle.std.proofs.lemmas.Bool.{and_parts}
 use Rattle.std.proofs.lemmas.List.{length-append}
 use Rattle.acl_lists.specs.declared.asked.Asked.{Asked}
 use Rattle.cbor_profile.specs.Canon.{canon}
@@ -12,16 +9,14 @@ use Rattle.cbor_profile.specs.Valid.{IsValid}
 use Rattle.cbor_profile.proofs.WholeReading.{canon_is}
 use Rattle.coap_message.specs.Message.{CoapOption, IsMessage, spelling}
 use Rattle.dots_lists.specs.Name.{is_name}
-use Rattle.dots_heads.specs.declared.reject.Reject.TheVariants as reject
 use Rattle.dots_heads.specs.declared.request.Content.TheVariants as content
 use Rattle.dots_heads.specs.declared.request.Observe.TheVariants as observe
 use Rattle.dots_heads.specs.declared.request.MitigationPath.{MitigationPath}
 use Rattle.dots_heads.specs.Heads.{head_of}
-use Rattle.dots_heads.specs.Operations.{is_client_name, client_name, identifier, put_mitigation, delete_mitigation}
-use Rattle.dots_heads.specs.Options.{first_critical, has_length}
+use Rattle.dots_heads.specs.Operations.{is_client_name, put_mitigation, delete_mitigation}
+use Rattle.dots_heads.specs.Options.{first_critical}
 use Rattle.dots_heads.specs.Paths.{mitigation, path_of}
 use Rattle.dots_heads.specs.Results.{◌>>=◌, missing}
-use Rattle.dots_heads.proofs.Identifiers.{identifies}
 use Rattle.dots_keys.specs.declared.request.MitigationBody.{MitigationBody}
 use Rattle.dots_keys.specs.declared.request.Request.TheVariants as request
 use Rattle.dots_keys.specs.Meaning.{AnswersBody, ReadsAs, Means, put_mitigation_with}
@@ -31,7 +26,7 @@ use Rattle.agent_messages.specs.Asked.{CanAsk}
 use Rattle.agent_messages.specs.Grants.{IsGranted}
 use Rattle.agent_messages.specs.Requests.{dots_cbor, asking, withdrawing}
 use Rattle.agent_messages.proofs.Bodies.{is_read}
-use Rattle.agent_messages.proofs.Heads.{recognised}
+use Rattle.agent_messages.proofs.Heads.{name_length, client_length, mid_length, passed_all, recognised, client_back, mid_back}
 use Rattle.dots_gateway.specs.Forwarding.{option_with, forwarded}
 use Rattle.dots_gateway.specs.Wanted.{passage, wanted_of}
 use Rattle.dots_machine.specs.Answering.{AreBytes}
@@ -42,70 +37,18 @@ use Rattle.machine_laws.specs.Reading.{IsReadAs}
 use Rattle.machine_laws.proofs.Reading.{read_as}
 
 -- ---- the parameters
-name_length : (name : List ℕ) → IsTrue (is_client_name name) → length name ≤ 64
-name_length name is =
-    let named = (and_parts (is_name name) _ is).0 in
-    let parts = and_parts (nat_le 1 (length name) && nat_le (length name) 64) (list_all is_ascii_graphic name) named in
-    leb-true (length name) 64 (and_parts (nat_le 1 (length name)) (nat_le (length name) 64) parts.0).1
-
 domain_length : (domain : List ℕ) → IsTrue (is_client_name domain) → length (codes "cdid=" ++ domain) ≤ 255
 domain_length domain is =
-    let few = name_length domain is in
+    let few = name_length domain (and_parts (is_name domain) _ is).0 in
     let sum = length-append (codes "cdid=") domain in
     omega (arith, sum, few)
-
-client_length : (cuid : List ℕ) → IsTrue (is_client_name cuid) → length (codes "cuid=" ++ cuid) ≤ 255
-client_length cuid is =
-    let few = name_length cuid is in
-    let sum = length-append (codes "cuid=") cuid in
-    omega (arith, sum, few)
-
-number_length : (mid : ℕ) → mid < 2 ^ 32 → length (decimal mid) ≤ 10
-number_length mid below = length-decimal-le 10 mid (omega arith) (omega (arith, below)) (omega (arith, below))
-
-mid_length : (mid : ℕ) → mid < 2 ^ 32 → length (codes "mid=" ++ decimal mid) ≤ 255
-mid_length mid below =
-    let few = number_length mid below in
-    let sum = length-append (codes "mid=") (decimal mid) in
-    omega (arith, sum, few)
-
-name_back : (name : List ℕ) → IsTrue (is_client_name name) → client_name name ≡ Ok name
-name_back name named = cond-true (is_client_name name) (Ok name) (Err reject.Parameter) named
-
-mid_back : (mid : ℕ) → mid < 2 ^ 32 → identifier (decimal mid) ≡ Ok mid
-mid_back mid below =
-    let numeral = decimal_is_IsNumeral mid (omega (arith, below)) in
-    identifies (decimal mid) mid numeral.0.1 numeral.1 numeral.0.0 (number_length mid below) below
-
--- ---- the options
-path_length : (n : ℕ) → n ≤ 255 → has_length 11 n ≡ true
-path_length n le = rw (le-leb n 255 le) refl
-
--- a segment of at most 255 bytes is recognised
-passed : (previous : Option ℕ) (segment : List ℕ) (options : List CoapOption) → length segment ≤ 255
-    → first_critical previous (option_with 11 segment ∷ options) ≡ first_critical (Some 11) options
-passed previous segment options le = rw (path_length (length segment) le) refl
-
--- the number before what stands behind these segments
-abbrev after : Option ℕ → List (List ℕ) → Option ℕ
-after previous [] = previous
-after previous (segment ∷ segments) = after (Some 11) segments
-
-abbrev AreShort : List (List ℕ) → Type 0
-AreShort segments = AllByRecursion (λ (segment : List ℕ). length segment ≤ 255) segments
-
-passed_all : (previous : Option ℕ) (segments : List (List ℕ)) (options : List CoapOption) → AreShort segments
-    → first_critical previous (map (option_with 11) segments ++ options) ≡ first_critical (after previous segments) options
-passed_all previous [] options short = refl
-passed_all previous (segment ∷ segments) options short =
-    passed previous segment (map (option_with 11) segments ++ options) short.0 ∙ passed_all (Some 11) segments options short.1
 
 -- ---- what a gateway takes from a client's request
 pub asking_passes : (number mid : ℕ) (cuid : List ℕ) (asked : Asked) (lifetime : ℤ) → IsTrue (is_client_name cuid) → mid < 2 ^ 32
     → wanted_of (asking number cuid mid asked lifetime) ≡ Ok (passage (passage_for cuid mid))
 asking_passes number mid cuid asked lifetime named below =
     let critical = recognised cuid mid (dots_cbor ∷ []) named below in
-    let client = name_back cuid named in
+    let client = client_back cuid named in
     let identified = mid_back mid below in
     simp (critical, client, identified) refl
 
@@ -113,7 +56,7 @@ pub withdrawing_passes : (number mid : ℕ) (cuid : List ℕ) → IsTrue (is_cli
     → wanted_of (withdrawing number cuid mid) ≡ Ok (passage (passage_for cuid mid))
 withdrawing_passes number mid cuid named below =
     let critical = recognised cuid mid [] named below in
-    let client = name_back cuid named in
+    let client = client_back cuid named in
     let identified = mid_back mid below in
     simp (critical, client, identified) refl
 
@@ -133,8 +76,8 @@ module _ (next number mid : ℕ) (domain cuid : List ℕ) (named_domain : IsTrue
         ≡ Ok (record { operation = put_mitigation path; content = content.All; observe = observe.No })
     asking_head =
         let critical = known (dots_cbor ∷ option_with 16 (15 ∷ []) ∷ []) in
-        let cdid = name_back domain named_domain in
-        let client = name_back cuid named in
+        let cdid = client_back domain named_domain in
+        let client = client_back cuid named in
         let identified = mid_back mid below in
         simp (critical, cdid, client, identified) refl
 
@@ -206,8 +149,8 @@ module _ (next number mid : ℕ) (domain cuid : List ℕ) (named_domain : IsTrue
       ≡ Ok (record { operation = delete_mitigation path; content = content.All; observe = observe.No })
   withdrawing_head =
       let critical = known (option_with 16 (15 ∷ []) ∷ []) in
-      let cdid = name_back domain named_domain in
-      let client = name_back cuid named in
+      let cdid = client_back domain named_domain in
+      let client = client_back cuid named in
       let identified = mid_back mid below in
       simp (critical, cdid, client, identified) refl
 

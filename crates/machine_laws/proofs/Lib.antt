@@ -3,6 +3,7 @@ pub mod Deciding
 pub mod Adding
 pub mod Granting
 pub mod OneGrant
+pub mod Bounds
 pub mod Kept
 pub mod Others
 pub mod Reading

@@ -6,7 +6,7 @@ use Rattle.cbor_profile.specs.Canon.{canon}
 use Rattle.cbor_profile.specs.Spelling.{Spells}
 use Rattle.cbor_profile.proofs.WholeReading.{same_reading, canon_is}
 use Rattle.coap_message.specs.declared.codes.TheConstants.{CREATED, CHANGED}
-use Rattle.coap_message.specs.Message.{CoapMessage, IsMessage}
+use Rattle.coap_message.specs.Message.{CoapMessage, IsMessage, spelling}
 use Rattle.coap_message.proofs.Whole.{one_message}
 use Rattle.reply_bodies.specs.Maps.{integer}
 use Rattle.reply_bodies.specs.Mitigations.{granted_scope, granted_tree}
@@ -30,29 +30,37 @@ one_tree mid other lifetime last e =
     let values : integer lifetime ≡ integer last = cc in
     (cc, one_integer lifetime last values)
 
-module _ (bytes token other_token : List ℕ) (mid other_mid : ℕ) (lifetime other_lifetime : ℤ) where
-  pub one_grant : IsGrant bytes token mid lifetime → IsGrant bytes other_token other_mid other_lifetime → (token ≡ other_token) × (mid ≡ other_mid) × (lifetime ≡ other_lifetime)
-  one_grant a b =
-      let same : a.message ≡ b.message = one_message a.message b.message a.is_message b.is_message (sym a.spelled ∙ b.spelled) in
-      let body : Spells b.message.payload (granted_tree mid lifetime) 0 = subst (λ (m : CoapMessage). Spells m.payload (granted_tree mid lifetime) 0) same a.grants.body in
-      let tree = (same_reading b.message.payload b.message.payload [] [] (granted_tree mid lifetime) (granted_tree other_mid other_lifetime) 16 body.1 b.grants.body.1 refl).0 in
+-- what a message of these bytes tells, whose payload spells the tree of a grant
+module _ (bytes token : List ℕ) (mid other_mid : ℕ) (lifetime other_lifetime : ℤ) where
+  pub one_told : IsGrant bytes token mid lifetime → (m : CoapMessage) → IsMessage m → bytes ≡ spelling m → Spells m.payload (granted_tree other_mid other_lifetime) 0
+      → (token ≡ m.token) × (mid ≡ other_mid) × (lifetime ≡ other_lifetime)
+  one_told a m is spelled other =
+      let same : a.message ≡ m = one_message a.message m a.is_message is (sym a.spelled ∙ spelled) in
+      let body : Spells m.payload (granted_tree mid lifetime) 0 = subst (λ (n : CoapMessage). Spells n.payload (granted_tree mid lifetime) 0) same a.grants.body in
+      let tree = (same_reading m.payload m.payload [] [] (granted_tree mid lifetime) (granted_tree other_mid other_lifetime) 16 body.1 other.1 refl).0 in
       let both = one_tree mid other_mid lifetime other_lifetime tree in
-      (sym a.token_is ∙ ap (λ (m : CoapMessage). m.token) same ∙ b.token_is, both.0, both.1)
+      (sym a.token_is ∙ ap (λ (n : CoapMessage). n.token) same, both.0, both.1)
+
+pub one_grant : (bytes token other_token : List ℕ) (mid other_mid : ℕ) (lifetime other_lifetime : ℤ)
+    → IsGrant bytes token mid lifetime → IsGrant bytes other_token other_mid other_lifetime → (token ≡ other_token) × (mid ≡ other_mid) × (lifetime ≡ other_lifetime)
+one_grant bytes token other_token mid other_mid lifetime other_lifetime a b =
+    let told = one_told bytes token mid other_mid lifetime other_lifetime a b.message b.is_message b.spelled b.grants.body in
+    (told.0 ∙ b.token_is, told.1, told.2)
 
 -- ---- the reply to a request that is granted
-lasting : (lifetime : ℤ) → IsGranted lifetime → FitsSigned w32 lifetime
+pub lasting : (lifetime : ℤ) → IsGranted lifetime → FitsSigned w32 lifetime
 lasting (pos n) is = omega (arith, is.1)
 lasting (negsuc n) is = omega (arith, is)
 
-spelled : (mid : ℕ) (lifetime : ℤ) → mid < 2 ^ 32 → IsGranted lifetime → Spells (canon (granted_tree mid lifetime)) (granted_tree mid lifetime) 0
-spelled mid lifetime small is =
-    canon_is (granted_tree mid lifetime) (mitigations_valid (granted_scope mid lifetime ∷ []) (record { each = (granted_within mid lifetime (omega (arith, small)) (lasting lifetime is), tt) }) (omega arith))
+pub spelled : (mid : ℕ) (lifetime : ℤ) → mid < 2 ^ 32 → FitsSigned w32 lifetime → Spells (canon (granted_tree mid lifetime)) (granted_tree mid lifetime) 0
+spelled mid lifetime small fits =
+    canon_is (granted_tree mid lifetime) (mitigations_valid (granted_scope mid lifetime ∷ []) (record { each = (granted_within mid lifetime (omega (arith, small)) fits, tt) }) (omega arith))
 
 module _ (x : Exchange) (put : Put) where
-  abbrev granted_message : Bool → CoapMessage
+  abbrev pub granted_message : Bool → CoapMessage
   granted_message refreshed = body_message (grant_code refreshed) x (canon (granted_tree put.mid put.granted))
 
-  is_message : (refreshed : Bool) → x.id < 2 ^ 16 → length x.token ≤ 8 → IsMessage (granted_message refreshed)
+  pub is_message : (refreshed : Bool) → x.id < 2 ^ 16 → length x.token ≤ 8 → IsMessage (granted_message refreshed)
   is_message true id token = record { code = omega arith; identifier = id; token = token; options = (omega arith, omega arith, omega arith, tt); empty = λ none. absurd (cc none) }
   is_message false id token = record { code = omega arith; identifier = id; token = token; options = (omega arith, omega arith, omega arith, tt); empty = λ none. absurd (cc none) }
 
@@ -67,5 +75,5 @@ module _ (x : Exchange) (put : Put) where
     is_message = is_message refreshed id token;
     spelled = refl;
     token_is = refl;
-    grants = record { code = codes_are refreshed; body = spelled put.mid put.granted small is; lasts = is };
+    grants = record { code = codes_are refreshed; body = spelled put.mid put.granted small (lasting put.granted is); lasts = is };
   }

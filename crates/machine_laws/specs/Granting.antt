@@ -3,6 +3,7 @@ use Rattle.std.specs.Prelude.{◌≡◌, ◌<◌, ◌^◌, ℕ, ℤ, List, Conta
 use Rattle.dots_host.specs.declared.event.Event.{Event}
 use Rattle.dots_host.specs.declared.event.Event.TheVariants as event
 use Rattle.coap_message.specs.Message.{CoapMessage, IsMessage, spelling}
+use Rattle.dots_settings.specs.Settings.{SettingsValue}
 use Rattle.agent_messages.specs.Grants.{IsGranted}
 use Rattle.dots_client.specs.Answers.{GrantsMid}
 use Rattle.dots_history.specs.declared.entry.Entry.{Entry}
@@ -25,12 +26,13 @@ pub record WasAnswered (history : List Entry) (peer : ℕ) (bytes : List ℕ) : 
   pub peer_is : entry.peer ≡ peer
   pub reply_is : entry.reply ≡ bytes
 
--- The entry is of a mitigation, and this grant has the token of its request, with the mid and the lifetime of the entry, where a request can have
--- them.
-pub record IsGrantFor (exchange : Exchange) (entry : Entry) (token : List ℕ) (mid : ℕ) (lifetime : ℤ) : Type 0 where
+-- The entry is of a mitigation, and this grant has the token of its request, with the mid and the lifetime of the entry, where this lifetime is one
+-- that a grant can tell. It is where the ceiling of the settings is one, and that of a settings file is.
+pub record IsGrantFor (settings : SettingsValue) (exchange : Exchange) (entry : Entry) (token : List ℕ) (mid : ℕ) (lifetime : ℤ) : Type 0 where
   pub put : Put
   pub changes : entry.change ≡ change.Put put
-  pub same : put.mid < 2 ^ 32 → IsGranted put.granted → (token ≡ exchange.token) × (mid ≡ put.mid) × (lifetime ≡ put.granted)
+  pub within : settings.ceiling < 2 ^ 31 → IsGranted put.granted
+  pub same : IsGranted put.granted → (token ≡ exchange.token) × (mid ≡ put.mid) × (lifetime ≡ put.granted)
 
 -- no datagram came
 abbrev pub IsNoDatagram : Event → Type 0

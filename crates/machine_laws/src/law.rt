@@ -47,7 +47,8 @@ pub fn adds()
 /// Where a datagram makes the machine send a grant, to whomever, the history that it leaves has an entry of this peer with these bytes as its
 /// reply (`step`). No other event makes it send a grant (`elsewhere`). The reply to a request that is granted is a grant, with the token of the
 /// request and the mid and lifetime that were granted (`granted`), and of no other token, mid or lifetime (`one`). So where the reply of an entry that
-/// a datagram added is a grant, the datagram asked for a mitigation, and the grant has its token and tells what the entry says (`kept`).
+/// a datagram added is a grant, the datagram asked for a mitigation, and the grant has its token and tells what the entry says, by settings
+/// with a ceiling below 2^31 or where the entry's lifetime is one that a grant can tell (`kept`).
 pub fn grants()
     ensures step { (settings : SettingsValue) (old : State) (peer : ℕ) (datagram : List ℕ) (at : ℕ) (owed : List (State × OwnedOut)) (new : State)
         (to : ℕ) (bytes token : List ℕ) (mid : ℕ) (lifetime : ℤ) → Step settings old (event.Datagram peer datagram) at owed new
@@ -63,7 +64,7 @@ pub fn grants()
         → (token ≡ other_token) × (mid ≡ other_mid) × (lifetime ≡ other_lifetime) }
     ensures kept { (settings : SettingsValue) (time peer : ℕ) (datagram : List ℕ) (entry : Entry) (token : List ℕ) (mid : ℕ) (lifetime : ℤ)
         (carries : CarriesRequest settings time peer datagram entry) → IsGrant entry.reply token mid lifetime
-        → IsGrantFor carries.exchange entry token mid lifetime }
+        → IsGrantFor settings carries.exchange entry token mid lifetime }
 {}
 
 /// A message that asks something is received as what it means, and as nothing else. So a client's request for a mitigation is received as this
