@@ -6,6 +6,7 @@ use Rattle.std.specs.Char.{is_ascii_graphic}
 use Rattle.std.proofs.lemmas.Bool.{cond-true, and_parts, leb-true, le-leb}
 use Rattle.std.proofs.lemmas.Fmt.{length-decimal-le, decimal_is_IsNumeral}
 use Rattle.coap_message.specs.Message.{CoapOption}
+use Rattle.coap_replies.specs.Replies.{dots_cbor}
 use Rattle.dots_lists.specs.Name.{is_name}
 use Rattle.dots_heads.specs.declared.reject.Reject.TheVariants as reject
 use Rattle.dots_heads.specs.declared.request.Content.TheVariants as content
@@ -16,7 +17,7 @@ use Rattle.dots_heads.specs.Options.{first_critical, has_length}
 use Rattle.dots_heads.specs.Paths.{mitigation, path_of}
 use Rattle.dots_heads.proofs.Identifiers.{identifies}
 use Rattle.acl_lists.specs.declared.asked.Asked.{Asked}
-use Rattle.agent_messages.specs.Requests.{uri_path, dots_cbor, asking, withdrawing}
+use Rattle.agent_messages.specs.Requests.{uri_path, asking, withdrawing}
 
 path_length : (n : ℕ) → n ≤ 255 → has_length 11 n ≡ true
 path_length n le = rw (le-leb n 255 le) refl

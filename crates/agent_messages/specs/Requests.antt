@@ -1,14 +1,14 @@
 -- Requests for mitigations as the messages that are sent for them (RFC 9132, sections 4.4.1 and 4.4.4).
-use Rattle.std.specs.Prelude.{ℕ, ℤ, ◌/◌, ◌%◌, ◌^◌, List, [], ◌∷◌, ◌++◌, map, decimal, Option, Some, None}
+use Rattle.std.specs.Prelude.{ℕ, ℤ, ◌%◌, ◌^◌, List, [], ◌∷◌, ◌++◌, map, decimal, Option, Some, None}
 use Rattle.std.specs.Int.{w64, to_be_bytes}
 use Rattle.acl_lists.specs.declared.asked.Asked.{Asked}
 use Rattle.cbor_profile.specs.Canon.{canon}
 use Rattle.coap_message.specs.declared.codes.TheConstants.{PUT, DELETE}
 use Rattle.coap_message.specs.declared.kind.Kind.{Kind}
 use Rattle.coap_message.specs.declared.kind.Kind.TheVariants.{Non}
-use Rattle.coap_message.specs.declared.option_numbers.TheConstants.{URI_PATH, CONTENT_FORMAT}
-use Rattle.coap_message.specs.declared.TheConstants.{DOTS_CBOR}
+use Rattle.coap_message.specs.declared.option_numbers.TheConstants.{URI_PATH}
 use Rattle.coap_message.specs.Message.{CoapOption, CoapMessage}
+use Rattle.coap_replies.specs.Replies.{dots_cbor}
 use Rattle.dots_heads.specs.Paths.{mitigation, path_of}
 use Rattle.reply_bodies.specs.Requests.{request_tree}
 
@@ -38,10 +38,6 @@ request_message w = record {
   options = map uri_path (path_of (mitigation w.cdid (Some w.cuid) (Some w.mid))) ++ w.options;
   payload = w.payload;
 }
-
--- Content-Format application/dots+cbor, whose number is a value of two bytes
-abbrev pub dots_cbor : CoapOption
-dots_cbor = record { number = CONTENT_FORMAT; value = DOTS_CBOR / 256 ∷ DOTS_CBOR % 256 ∷ [] }
 
 -- a client's PUT for a mitigation, non-confirmable (section 4.4.1)
 abbrev pub asking : ℕ → List ℕ → ℕ → Asked → ℤ → CoapMessage

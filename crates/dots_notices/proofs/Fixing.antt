@@ -7,12 +7,13 @@ use Rattle.std.specs.Prelude.{codes, ◌*◌}
 use Rattle.coap_message.specs.declared.codes.TheConstants.{CONTENT, NOT_FOUND}
 use Rattle.coap_message.specs.declared.kind.Kind.TheVariants.{Non}
 use Rattle.coap_message.specs.Message.{CoapOption, options_bytes, payload_bytes, spelling}
+use Rattle.coap_replies.specs.Replies.{dots_cbor}
 use Rattle.coap_observe.specs.Seen.{Lists}
 use Rattle.coap_observe.specs.Observed.{ObservedValue}
 use Rattle.coap_observe.specs.Observing.{after_notice}
 use Rattle.session_core.specs.declared.contact.PeerContact.{PeerContact}
 use Rattle.session_core.specs.Contacts.{numbered}
-use Rattle.dots_notices.specs.Notices.{content_notice, gone_notice, observe, dots_cbor}
+use Rattle.dots_notices.specs.Notices.{content_notice, gone_notice, observe}
 use Rattle.dots_notices.specs.Notifying.{Bodies, is_gone, notice_bytes, notice, Notifies, Unlike, Apart}
 
 -- to whom a send goes, and the token of a message that isn't confirmable

@@ -5,6 +5,7 @@ use Rattle.coap_message.specs.declared.codes.TheConstants.{PUT}
 use Rattle.coap_message.specs.declared.option_numbers.TheConstants.{URI_PATH}
 use Rattle.coap_message.specs.declared.kind.Kind.TheVariants.{Non}
 use Rattle.coap_message.specs.Message.{CoapOption, spelling}
+use Rattle.coap_replies.specs.Replies.{dots_cbor}
 use Rattle.dots_heads.specs.Paths.{heartbeat, path_of}
 use Rattle.dots_host.specs.declared.out.OwnedOut.{OwnedOut}
 use Rattle.dots_host.specs.declared.out.OwnedOut.TheVariants as owned
@@ -13,7 +14,6 @@ use Rattle.session_core.specs.declared.contact.Beat.{Beat}
 use Rattle.session_core.specs.declared.contact.PeerContact.{PeerContact}
 use Rattle.session_core.specs.Beating.{Beating, due_beat}
 use Rattle.session_core.specs.Spacing.{without_lost, with_beat}
-use Rattle.dots_notices.specs.Notices.{dots_cbor}
 
 -- a segment of the path (RFC 7252, section 5.10.1)
 abbrev pub uri_path : List ℕ → CoapOption

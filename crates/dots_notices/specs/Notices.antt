@@ -1,11 +1,11 @@
 -- The bytes of notifications (RFC 7641, section 4.2; RFC 9132, section 4.4.2.1). None is confirmable.
 use Rattle.std.specs.Prelude.{ℕ, ◌/◌, ◌%◌, ◌==◌, nat_lt, if◌then◌else◌, List, [], ◌∷◌, codes}
 use Rattle.coap_message.specs.declared.codes.TheConstants.{CONTENT, NOT_FOUND}
-use Rattle.coap_message.specs.declared.option_numbers.TheConstants.{OBSERVE, CONTENT_FORMAT}
-use Rattle.coap_message.specs.declared.TheConstants.{DOTS_CBOR}
+use Rattle.coap_message.specs.declared.option_numbers.TheConstants.{OBSERVE}
 use Rattle.coap_message.specs.declared.kind.Kind.{Kind}
 use Rattle.coap_message.specs.declared.kind.Kind.TheVariants.{Non}
 use Rattle.coap_message.specs.Message.{CoapOption, spelling}
+use Rattle.coap_replies.specs.Replies.{dots_cbor}
 
 -- the fewest bytes that stand for a number of 24 bits, the highest first (RFC 7252, section 3.2)
 abbrev pub shortest : ℕ → List ℕ
@@ -18,10 +18,6 @@ shortest number =
 -- Observe with the number of a notification (RFC 7641, section 2)
 abbrev pub observe : ℕ → CoapOption
 observe number = record { number = OBSERVE; value = shortest number }
-
--- Content-Format application/dots+cbor, whose number is a value of two bytes
-abbrev pub dots_cbor : CoapOption
-dots_cbor = record { number = CONTENT_FORMAT; value = DOTS_CBOR / 256 ∷ DOTS_CBOR % 256 ∷ [] }
 
 -- 2.05 Content, with a number and a body
 abbrev pub numbered_content : Kind → ℕ → List ℕ → ℕ → List ℕ → List ℕ

@@ -24,13 +24,14 @@ use Rattle.dots_keys.specs.Mitigations.{has_target}
 use Rattle.reply_bodies.specs.Requests.{request_tree}
 use Rattle.agent_messages.specs.Asked.{CanAsk}
 use Rattle.agent_messages.specs.Grants.{IsGranted}
-use Rattle.agent_messages.specs.Requests.{dots_cbor, asking, withdrawing}
+use Rattle.agent_messages.specs.Requests.{asking, withdrawing}
 use Rattle.agent_messages.proofs.Bodies.{is_read}
 use Rattle.agent_messages.proofs.Heads.{name_length, client_length, mid_length, passed_all, recognised, client_back, mid_back}
 use Rattle.dots_gateway.specs.Forwarding.{option_with, forwarded}
 use Rattle.dots_gateway.specs.Wanted.{passage, wanted_of}
 use Rattle.dots_machine.specs.Answering.{AreBytes}
 use Rattle.coap_replies.specs.Exchanges.{exchange_in}
+use Rattle.coap_replies.specs.Replies.{dots_cbor}
 use Rattle.dots_machine.specs.Requests.{received_as}
 use Rattle.machine_laws.specs.Forwarding.{passage_for, asked_in, withdrawn_in}
 use Rattle.machine_laws.specs.Reading.{IsReadAs}

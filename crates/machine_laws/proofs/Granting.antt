@@ -14,12 +14,13 @@ use Rattle.coap_observe.specs.Seen.{Lists}
 use Rattle.coap_observe.specs.Observed.{ObservedValue}
 use Rattle.session_core.specs.declared.contact.PeerContact.{PeerContact}
 use Rattle.session_core.specs.Contacts.{numbered}
-use Rattle.dots_notices.specs.Notices.{observe, dots_cbor, content_notice, gone_notice}
+use Rattle.dots_notices.specs.Notices.{observe, content_notice, gone_notice}
 use Rattle.dots_notices.specs.Notifying.{Bodies, is_gone, notice_bytes, notice, Notifies}
 use Rattle.dots_settings.specs.Settings.{SettingsValue}
 use Rattle.dots_machine.specs.Verdict.{Verdict}
 use Rattle.dots_machine.specs.declared.verdict.Verdict.TheVariants as verdict
 use Rattle.coap_replies.specs.Exchanges.{reply_kind}
+use Rattle.coap_replies.specs.Replies.{dots_cbor}
 use Rattle.dots_machine.specs.Replies.{observe_with, showing}
 use Rattle.dots_machine.specs.Observing.{number_of, bodies_at}
 use Rattle.dots_machine.specs.Machine.{State, later, seen_in, sends_of, after, watched, Answers, Step}

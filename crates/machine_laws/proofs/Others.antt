@@ -13,7 +13,7 @@ use Rattle.coap_message.specs.declared.kind.Kind.TheVariants.{Non}
 use Rattle.dots_heads.specs.Paths.{heartbeat, path_of}
 use Rattle.reply_bodies.specs.Sessions.{beat_tree}
 use Rattle.session_core.specs.declared.contact.Beat.{Beat}
-use Rattle.dots_notices.specs.Notices.{dots_cbor}
+use Rattle.coap_replies.specs.Replies.{dots_cbor}
 use Rattle.dots_notices.specs.Beats.{uri_path, beat_sent, beat_bytes}
 use Rattle.stream_table.specs.declared.refused.Refused.{Refused}
 use Rattle.rest_answers.specs.declared.front.RestFront.TheVariants as fronts

@@ -1,6 +1,8 @@
 use Rattle.std.proofs.Common.{[], ◌∷◌, List, ℕ, refl, sym, ap, subst, ◌∙◌}
 use Rattle.std.proofs.lemmas.Bool.{false≢true}
+use Rattle.coap_replies.specs.declared.exchange.Exchange.{Exchange}
 use Rattle.coap_replies.specs.Exchanges.{is_request}
+use Rattle.coap_replies.specs.Replies.{plain}
 use Rattle.dots_host.specs.declared.out.OwnedOut.TheVariants as owned
 use Rattle.dots_host.specs.Runs.{Added, Gives}
 use Rattle.dots_host.proofs.RunLemmas.{added_none}
@@ -27,6 +29,7 @@ pub returns-clause-refuses : goal.returns-clause-refuses
 returns-clause-refuses g c = (
   _,
   answered c.in-Ok.message c.in-Ok.ensures.found.0 c.in-Ok.ensures.found.1 (sym c.if-not-is_request.ensures) refl,
-  subst (λ (bytes : List ℕ). Added (g.W.Wire.acts c.args.wire.now) (g.W.Wire.acts c.send_to.new.wire) (Gives (g.W.Wire.moment c.args.wire.now) (owned.To c.args.peer bytes ∷ []))) c.put_plain-len.ensures.put
+  subst (λ (bytes : List ℕ). Added (g.W.Wire.acts c.args.wire.now) (g.W.Wire.acts c.send_to.new.wire) (Gives (g.W.Wire.moment c.args.wire.now) (owned.To c.args.peer bytes ∷ [])))
+      (c.bytes.ensures.value ∙ c.plain-reply.ensures ∙ ap (λ (x : Exchange). plain c.args.code x c.args.text.now) c.of.ensures)
       c.send_to.ensures.gives,
 )
