@@ -5,6 +5,7 @@ use Rattle.file_checks.specs.declared.checked.Unchecked.{Unchecked}
 use Rattle.file_checks.specs.declared.checked.Unchecked.TheVariants as unchecked
 use Rattle.host_checks.specs.declared.files.Task.{Task}
 use Rattle.host_checks.specs.declared.files.Task.TheVariants as task
+use Rattle.host_checks.specs.declared.filtering.FilterForm.TheVariants as form
 use Rattle.host_checks.specs.HostChecks.{ChecksFiles, front_of}
 use Rattle.dots_machine.specs.Commands.{is_word}
 use Rattle.dots_run.specs.declared.topic_outcome.TopicOutcome.{TopicOutcome}
@@ -16,17 +17,18 @@ is_of_host word (name ∷ settings ∷ host ∷ []) = bytes_eq name word && (is_
 is_of_host word _ = false
 
 -- `filters`, the same two, and `nft`
-abbrev pub is_filters : List (List ℕ) → Bool
-is_filters (name ∷ settings ∷ host ∷ form ∷ []) =
-    bytes_eq name (codes "filters") && (is_word settings && (is_word host && bytes_eq form (codes "nft")))
-is_filters _ = false
+abbrev pub is_for_nft : List (List ℕ) → Bool
+is_for_nft (name ∷ settings ∷ host ∷ last ∷ []) =
+    bytes_eq name (codes "filters") && (is_word settings && (is_word host && bytes_eq last (codes "nft")))
+is_for_nft _ = false
 
--- what `check SETTINGS HOSTFILE`, `journal SETTINGS HOSTFILE` and `filters SETTINGS HOSTFILE nft` ask for
+-- what `check SETTINGS HOSTFILE`, `journal SETTINGS HOSTFILE`, `filters SETTINGS HOSTFILE` and `filters SETTINGS HOSTFILE nft` ask for
 abbrev pub host_task : List (List ℕ) → Option Task
 host_task words =
     if is_of_host (codes "check") words then Some task.Check
     else if is_of_host (codes "journal") words then Some task.List
-    else if is_filters words then Some task.Script
+    else if is_of_host (codes "filters") words then Some (task.Filters form.Report)
+    else if is_for_nft words then Some (task.Filters form.Script)
     else None
 
 -- what is found of both files, where they tell their bytes; no answer where a read of one failed, or for want of memory

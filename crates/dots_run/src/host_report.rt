@@ -5,12 +5,12 @@ ghost use Rattle.std.specs.Fn.{FnReturnsAt};
 ghost use Rattle.dots_host.specs.Causes.{Rose};
 ghost use Rattle.dots_machine.specs.Commands.{second_of, third_of};
 ghost use Rattle.host_checks.specs.declared.files.Task.{Task};
-ghost use Rattle.dots_run.specs.HostReports.{host_task, is_of_host, is_filters, ReportsHost};
+ghost use Rattle.dots_run.specs.HostReports.{host_task, is_of_host, is_for_nft, ReportsHost};
 
 use crate::reporting::report_found;
 use crate::words::is_word;
 use dots_host::{Sink, Source, StdSink, StdSource};
-use host_checks::{Task, check_files};
+use host_checks::{FilterForm, Task, check_files};
 use std::alloc::Global;
 use std::fs::{File, Files};
 use std::io::{Read, Write};
@@ -38,8 +38,8 @@ impl<F: Drop, K: Drop> HostChecked<F, K> {
     }
 }
 
-/// What `check SETTINGS HOSTFILE`, `journal SETTINGS HOSTFILE` and `filters SETTINGS HOSTFILE nft` ask for; None where the words are none of
-/// these.
+/// What `check SETTINGS HOSTFILE`, `journal SETTINGS HOSTFILE` and `filters SETTINGS HOSTFILE`, with `nft` behind it or without, ask for; None
+/// where the words are none of these.
 pub fn host_task(words: &[String]) -> Option<Task>
     ensures { result ≡ host_task (map string_bytes words.now) }
 {
@@ -49,21 +49,24 @@ pub fn host_task(words: &[String]) -> Option<Task>
     if is_of_host("journal", words) {
         return Some(Task::List);
     }
-    if is_filters(words) {
-        return Some(Task::Script);
+    if is_of_host("filters", words) {
+        return Some(Task::Filters(FilterForm::Report));
+    }
+    if is_for_nft(words) {
+        return Some(Task::Filters(FilterForm::Script));
     }
     None
 }
 
 /// Whether they are `filters`, two that name files, and `nft`.
-fn is_filters(words: &[String]) -> bool
-    ensures { result ≡ is_filters (map string_bytes words.now) }
+fn is_for_nft(words: &[String]) -> bool
+    ensures { result ≡ is_for_nft (map string_bytes words.now) }
 {
     match words {
-        [name, settings, host, form] => {
+        [name, settings, host, last] => {
             name.as_str() == "filters"
                 && (is_word(settings.as_bytes())
-                    && (is_word(host.as_bytes()) && form.as_str() == "nft"))
+                    && (is_word(host.as_bytes()) && last.as_str() == "nft"))
         }
         _ => false,
     }
@@ -96,10 +99,10 @@ fn asked_of(words: &[String]) -> (Task, &str, &str)
     }
 }
 
-/// Does what the words `check SETTINGS HOSTFILE`, `journal SETTINGS HOSTFILE` or `filters SETTINGS HOSTFILE nft` ask for: `opening` opens both
+/// Does what the words `check SETTINGS HOSTFILE`, `journal SETTINGS HOSTFILE` or `filters SETTINGS HOSTFILE` (`nft`) ask for: `opening` opens both
 /// files by their names, and what they come to is written to `report`, with what is found of the journal that the host file names, or the
-/// entries of that, or the script of its filters; or the first fault of either file, and why it is one. Status 3 where a server wouldn't start with them. A file that can't be opened, where `opening` gives None, fails when it is read. Nothing is bound, and
-/// nothing else is written.
+/// entries of that, or its filters; or the first fault of either file, and why it is one. Status 3 where a server wouldn't start with
+/// them. A file that can't be opened, where `opening` gives None, fails when it is read. Nothing is bound, and nothing else is written.
 pub fn check_host<
     F: Read + Drop,
     K: Write + Drop,

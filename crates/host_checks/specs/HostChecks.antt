@@ -78,7 +78,7 @@ ReportsChecked settings file told = (now : ℕ) × (state : JournalState) × Che
 abbrev pub ReportsTask : Task → SettingsValue → List ℕ → Checked → Type 0
 ReportsTask task.Check settings file told = ReportsChecked settings file told
 ReportsTask task.List settings file told = ⊤
-ReportsTask task.Script settings file told = ⊤
+ReportsTask (task.Filters form) settings file told = ⊤
 
 -- What is told of the host file: that it is too long, or the report of its first fault, or what there is to be told.
 abbrev pub ReportsHost : Task → SettingsValue → List ℕ → Checked → Type 0

@@ -4,4 +4,4 @@ pub mod HostChecks
 pub mod Journals
 pub mod Listings
 pub mod Reasons
-pub mod Scripts
+pub mod Filters

@@ -11,11 +11,11 @@ ghost use Rattle.file_checks.specs.declared.checked.Checked.TheVariants as check
 ghost use Rattle.host_checks.specs.HostChecks.{ChecksFiles, ReportsChecked, ReportsHost, front_of, too_long};
 
 use crate::checking::check_host;
+use crate::filtering::{FilterForm, filters_read};
 use crate::host_fault::host_fault_report;
 use crate::journal_state::{JournalState, add_journal};
 use crate::listing::list_journal;
 use crate::looking::look_at;
-use crate::scripting::script_read;
 use dots_edge::{FoundJournal, JournalReader};
 use dots_host::Source;
 use dots_lists::{Bytes, NoMemory};
@@ -42,13 +42,13 @@ pub enum Task {
     Check,
     /// The entries of the journal.
     List,
-    /// The script for `nft -f` of the filters that the journal comes to now.
-    Script,
+    /// The filters that the journal comes to now, in this form.
+    Filters(FilterForm),
 }
 
 /// What is told of a settings file and of the host file that a server would be started with beside it: the first fault of the settings; or
 /// that of the host file; or what its lines come to, and what is found of the journal now, with what a server would refuse and its status
-/// then; or the entries of the journal; or the script of its filters. Nothing is bound, and nothing is written.
+/// then; or the entries of the journal; or its filters. Nothing is bound, and nothing is written.
 pub fn check_files<S: Source, T: Source, R: Files<File = File> + Clock>(
     alloc: Global,
     rt: &R,
@@ -104,7 +104,7 @@ fn check_beside<R: Files<File = File> + Clock>(
         Ok(said) => match task {
             Task::Check => check_said(alloc, rt, settings, said.as_slice(), text),
             Task::List => list_said(alloc, rt, settings, said.as_slice()),
-            Task::Script => script_said(alloc, rt, settings, said.as_slice()),
+            Task::Filters(form) => filters_said(alloc, rt, settings, said.as_slice(), form),
         },
         Err(HostFault::NoMemory) => Err(NoMemory),
         Err(fault) => match host_fault_report(alloc, text, fault) {
@@ -178,22 +178,29 @@ fn list_said<R: Files<File = File>>(
     }
 }
 
-/// The script of the filters that the journal of these lines comes to now. Where there is no journal yet that is a fault.
-fn script_said<R: Files<File = File> + Clock>(
+/// The filters that the journal of these lines comes to now. Where there is no journal yet that is a fault.
+fn filters_said<R: Files<File = File> + Clock>(
     alloc: Global,
     rt: &R,
     settings: &Settings,
     said: &[HostLine<'_>],
+    form: FilterForm,
 ) -> Result<Checked, NoMemory> {
     let Some(path) = journal_in(said) else {
-        return no_script(alloc, JournalState::Unreadable);
+        return no_filters(alloc, JournalState::Unreadable);
     };
     match JournalReader::open(rt, path, reserve_in(said)) {
-        FoundJournal::Missing => no_script(alloc, JournalState::Missing),
-        FoundJournal::Blank => no_script(alloc, JournalState::Blank),
-        FoundJournal::NotOne => no_script(alloc, JournalState::NotOne),
-        FoundJournal::Unreadable => no_script(alloc, JournalState::Unreadable),
-        FoundJournal::There(mut reader) => script_read(alloc, &mut reader, settings, now(rt)),
+        FoundJournal::Missing => no_filters(alloc, JournalState::Missing),
+        FoundJournal::Blank => no_filters(alloc, JournalState::Blank),
+        FoundJournal::NotOne => no_filters(alloc, JournalState::NotOne),
+        FoundJournal::Unreadable => no_filters(alloc, JournalState::Unreadable),
+        FoundJournal::There(mut reader) => filters_read(
+            alloc,
+            &mut reader,
+            settings,
+            now(rt),
+            form,
+        ),
     }
 }
 
@@ -207,8 +214,8 @@ fn now<R: Clock>(rt: &R) -> u64
     }
 }
 
-/// What is said of a journal that has no script.
-fn no_script(alloc: Global, state: JournalState) -> Result<Checked, NoMemory> {
+/// What is said of a journal that has no filters.
+fn no_filters(alloc: Global, state: JournalState) -> Result<Checked, NoMemory> {
     let mut text = Vec::new(alloc);
     add_journal(&mut text, 0, state)?;
     Ok(Checked::AtFault(Bytes::from_vec(text)))

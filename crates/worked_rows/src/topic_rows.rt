@@ -120,8 +120,10 @@ $ help
 =                        prints what the settings of a client come to, or the line at fault
 = dots journal SETTINGS HOSTFILE
 =                        prints the entries of the journal that a host file names
+= dots filters SETTINGS HOSTFILE
+=                        prints the filters of that journal, also while a server runs, as the lines of a report
 = dots filters SETTINGS HOSTFILE nft
-=                        prints the filters of that journal, also while a server runs, as a script for nft -f
+=                        prints them as a script for nft -f
 = dots check-script      reads a script from standard input: prints how many events it has, or its first fault, and why
 = dots load N            serves 20,000 events that the number N, of 1 to 1,000, generates, over a host in memory: prints
 =                        eight counts, the same for the same N
