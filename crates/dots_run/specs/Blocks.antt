@@ -10,7 +10,7 @@ use Rattle.dots_machine.specs.Outside.{Outside}
 abbrev pub seeing : Outside → Option (List Timed) → Outside
 seeing now acts = record now { acts = acts }
 
--- A run of words that ask for no topic, with this status. The server took requests without Block2 and sent whole replies: what it has done is said of
+-- A run of words that ask for no topic, with this status. The server took requests without Block2 and sent whole replies and notifications: what it has done is said of
 -- these acts, by the ending that the status is of, and the acts of the host are the same ones as they were handed on. Where the run didn't
 -- come to its host, that was not called.
 pub record RunsInBlocks (words : List (List ℕ)) (status : ℕ) (before now : Outside) (uncalled : Type 0) : Type 0 where

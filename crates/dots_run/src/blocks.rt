@@ -31,8 +31,8 @@ pub struct Ended<H> {
 }
 
 /// Does all that the program does, as [`run`], and replies leave in blocks: where a GET asks for a block of its reply, and where the
-/// payload of the reply has more than 1,024 bytes. With `replay` and `serve` a [`BlockHost`] is put around the host and taken away again.
-/// Status 4 where no memory is found for that: then nothing was read, taken or sent.
+/// payload of the reply has more than 1,024 bytes. A notification with such a payload leaves as its first block. With `replay` and `serve` a
+/// [`BlockHost`] is put around the host and taken away again. Status 4 where no memory is found for that: then nothing was read, taken or sent.
 pub fn run_blocks<H: Host, S: Source, K: Sink>(
     alloc: Global,
     words: &[String],

@@ -1,4 +1,4 @@
-//! A list that is longer than a block: sixteen mitigations of sixteen addresses each.
+//! Lists that are longer than a block: sixteen mitigations of sixteen addresses each, or fifteen.
 
 use std::alloc::Global;
 use std::fmt::Write;
@@ -66,10 +66,11 @@ fn push_request(alloc: Global, row: &mut String, turn: u8) -> Option<()> {
     Some(())
 }
 
-/// The body of the list in hexadecimal: 3600 s are left of each mitigation, which began at 1000 and is being mitigated.
-fn list_of(alloc: Global) -> Option<String> {
-    let mut text = String::from_str(alloc, "a101a10290").ok()?;
-    for turn in 0..16 {
+/// The body of a list of so many in hexadecimal, of which `head` is the array's first byte: 3600 s are left of each mitigation, which began at 1000 and
+/// is being mitigated.
+fn list_of(alloc: Global, head: &str, count: u8) -> Option<String> {
+    let mut text = format!(in alloc; "a101a102{head}").ok()?;
+    for turn in 0..count {
         let mid = mid_of(turn);
         write!(text, "a50518{mid:02x}06").ok()?;
         push_addresses(alloc, &mut text, turn)?;
@@ -103,7 +104,47 @@ pub fn long_list(alloc: Global) -> Option<String> {
     for turn in 0..16 {
         push_request(alloc, &mut row, turn)?;
     }
-    let list = list_of(alloc)?;
+    let list = list_of(alloc, "90", 16)?;
     push_gets(&mut row, list.as_str())?;
+    Some(row)
+}
+
+/// A GET with Observe 0 and Message ID 32 of all mitigations, and the head of its reply and of the notification behind it, up to their blocks.
+const OBSERVE: &str = "\
+< at 1000 from 0 51010020+OBSERVE+CUID
+> to 0 514500204a610162010fb10eff";
+
+const NOTICE: &str = "> to 0 514503e84a610262010fb10eff";
+
+/// Puts requests for what follows the first block of a list, with another token, and their replies.
+fn push_rest(row: &mut String, list: &str) -> Option<()> {
+    let path = PATH.get(2..)?;
+    let two = list.get(LARGE..2 * LARGE)?;
+    let three = list.get(2 * LARGE..3 * LARGE)?;
+    let four = list.get(3 * LARGE..)?;
+    write!(
+        row,
+        "< at 1009 from 0 510100214b{path}c116\n> to 0 514500214bc2010fb11eff{two}\n\
+         < at 1009 from 0 510100224b{path}c126\n> to 0 514500224bc2010fb12eff{three}\n\
+         < at 1009 from 0 510100234b{path}c136\n> to 0 514500234bc2010fb136ff{four}\n"
+    )
+    .ok()
+}
+
+/// The row of a run in which fifteen mitigations are observed and one more is asked for. The observer is notified of all, and fetches the
+/// rest nine seconds later: it is of the same list.
+pub fn long_notice(alloc: Global) -> Option<String> {
+    let mut row = String::new(alloc);
+    for turn in 0..15 {
+        push_request(alloc, &mut row, turn)?;
+    }
+    let old = list_of(alloc, "8f", 15)?;
+    let first = old.get(..LARGE)?;
+    write!(&mut row, "{OBSERVE}{first}\n").ok()?;
+    push_request(alloc, &mut row, 15)?;
+    let new = list_of(alloc, "90", 16)?;
+    let first = new.get(..LARGE)?;
+    write!(&mut row, "{NOTICE}{first}\n").ok()?;
+    push_rest(&mut row, new.as_str())?;
     Some(row)
 }

@@ -9,7 +9,7 @@ use crate::domain_rows::DOMAINS;
 use crate::faults::{FAULTY, LARGE, UNREAD};
 use crate::journal_rows::{DIGESTS, JOURNALS, TIMES};
 use crate::list_rows::LISTS;
-use crate::long_lists::long_list;
+use crate::long_lists::{long_list, long_notice};
 use crate::mitigation_rows::{FATES, MITIGATIONS};
 use crate::name_rows::{LIFETIMES, SCOPES};
 use crate::observer_rows::OBSERVERS;
@@ -86,9 +86,9 @@ fn runs_over_scripts(rt: HostRuntime) {
     all_hold(&rt, alloc, BLOCKS);
 }
 
-/// Whether a run in which a long list is read goes as its row says.
-fn list_holds(alloc: Global) -> bool {
-    match long_list(alloc) {
+/// Whether a run goes as this row says, where there is one.
+fn list_holds(alloc: Global, row: Option<String>) -> bool {
+    match row {
         Some(text) => holds(alloc, "$ replay settings\n:&", text.as_str()),
         None => false,
     }
@@ -105,7 +105,9 @@ fn runs_with_connections(rt: HostRuntime) {
 
 #[test]
 fn long_lists_come_in_blocks(rt: HostRuntime) {
-    assert!(rt; list_holds(rt.alloc()));
+    let alloc = rt.alloc();
+    assert!(rt; list_holds(alloc, long_list(alloc)));
+    assert!(rt; list_holds(alloc, long_notice(alloc)));
 }
 
 #[test]
