@@ -31,12 +31,12 @@ struct Step {
     wanted: Filled,
 }
 
-const fn filled(head: &'static [u8], byte: u8, count: usize) -> Filled {
+fn with_payload(head: &'static [u8], byte: u8, count: usize) -> Filled {
     Filled { head, byte, count }
 }
 
 /// A step of peer 0.
-const fn step(came: Came, sent: Filled, wanted: Filled) -> Step {
+fn sent_to_0(came: Came, sent: Filled, wanted: Filled) -> Step {
     Step {
         came,
         peer: 0,
@@ -48,17 +48,29 @@ const fn step(came: Came, sent: Filled, wanted: Filled) -> Step {
 /// A GET of `a` with Observe 0 and the token 4a, and its reply.
 const GET_A: Came = Came::Datagram(b"\x51\x01\0\x01\x4a\x60\x51a");
 
-const SEEN_A: Filled = filled(b"\x51\x45\0\x01\x4a\x61\x01\x62\x01\x0f\xff", b'a', 3);
+const SEEN_A: Filled = Filled {
+    head: b"\x51\x45\0\x01\x4a\x61\x01\x62\x01\x0f\xff",
+    byte: b'a',
+    count: 3,
+};
 
 /// The same of `b` with the token 4b.
 const GET_B: Came = Came::Datagram(b"\x51\x01\0\x02\x4b\x60\x51b");
 
-const SEEN_B: Filled = filled(b"\x51\x45\0\x02\x4b\x61\x01\x62\x01\x0f\xff", b'b', 3);
+const SEEN_B: Filled = Filled {
+    head: b"\x51\x45\0\x02\x4b\x61\x01\x62\x01\x0f\xff",
+    byte: b'b',
+    count: 3,
+};
 
 /// A GET of block 1 of `a` without Observe, of 1,024 bytes; and its reply.
 const REST_A: Came = Came::Datagram(b"\x51\x01\0\x03\x4c\xb1a\xc1\x16");
 
-const NEW_A: Filled = filled(b"\x51\x45\0\x03\x4c\xc2\x01\x0f\xff", b'n', 1028);
+const NEW_A: Filled = Filled {
+    head: b"\x51\x45\0\x03\x4c\xc2\x01\x0f\xff",
+    byte: b'n',
+    count: 1028,
+};
 
 /// The same of `b`.
 const REST_B: Came = Came::Datagram(b"\x51\x01\0\x03\x4c\xb1b\xc1\x16");
@@ -71,14 +83,20 @@ const NOTICE: &[u8] = b"\x51\x45\x03\xe8\x4a\x61\x02\x62\x01\x0f\xff";
 
 const BLOCK_0: &[u8] = b"\x51\x45\x03\xe8\x4a\x61\x02\x62\x01\x0f\xb1\x0e\xff";
 
-const LONG: Filled = filled(NOTICE, b'm', 1030);
+const LONG: Filled = Filled {
+    head: NOTICE,
+    byte: b'm',
+    count: 1030,
+};
 
 /// Two resources are observed, and the first is told of.
-const TOLD: [Step; 3] = [
-    step(GET_A, SEEN_A, SEEN_A),
-    step(GET_B, SEEN_B, SEEN_B),
-    step(Came::Nothing, LONG, filled(BLOCK_0, b'm', 1024)),
-];
+fn told() -> [Step; 3] {
+    [
+        sent_to_0(GET_A, SEEN_A, SEEN_A),
+        sent_to_0(GET_B, SEEN_B, SEEN_B),
+        sent_to_0(Came::Nothing, LONG, with_payload(BLOCK_0, b'm', 1024)),
+    ]
+}
 
 fn bytes_of(alloc: Global, datagram: Filled) -> Option<Bytes> {
     let mut bytes = Vec::new(alloc);
@@ -96,7 +114,7 @@ fn plan(alloc: Global, host: &mut MemoryHost, step: Step) -> Option<()> {
         Came::Restart => Event::Restart,
         Came::Datagram(bytes) => Event::Datagram {
             from: step.peer,
-            bytes: bytes_of(alloc, filled(bytes, 0, 0))?,
+            bytes: bytes_of(alloc, with_payload(bytes, 0, 0))?,
         },
     };
     if !event.is_given() {
@@ -149,10 +167,10 @@ fn all_go(alloc: Global, steps: &[Step]) -> Option<bool> {
     Some(right)
 }
 
-/// Whether these go behind [`TOLD`].
+/// Whether these go behind those.
 fn go_then(alloc: Global, steps: &[Step]) -> bool {
     let mut all = Vec::new(alloc);
-    if all.extend_from_slice(&TOLD).is_err() || all.extend_from_slice(steps).is_err() {
+    if all.extend_from_slice(&told()).is_err() || all.extend_from_slice(steps).is_err() {
         return false;
     }
     all_go(alloc, all.as_slice()) == Some(true)
@@ -160,33 +178,33 @@ fn go_then(alloc: Global, steps: &[Step]) -> bool {
 
 #[test]
 fn the_rest_is_fetched(rt: HostRuntime) {
-    let rest = [step(REST_A, NEW_A, filled(BLOCK_1, b'm', 6))];
+    let rest = [sent_to_0(REST_A, NEW_A, with_payload(BLOCK_1, b'm', 6))];
     assert!(rt; go_then(rt.alloc(), &rest));
 }
 
 #[test]
 fn others_get_their_own(rt: HostRuntime) {
-    let of_b = [step(REST_B, NEW_A, filled(BLOCK_1, b'n', 4))];
+    let of_b = [sent_to_0(REST_B, NEW_A, with_payload(BLOCK_1, b'n', 4))];
     assert!(rt; go_then(rt.alloc(), &of_b));
     let of_peer = [Step {
         peer: 1,
-        ..step(REST_A, NEW_A, filled(BLOCK_1, b'n', 4))
+        ..sent_to_0(REST_A, NEW_A, with_payload(BLOCK_1, b'n', 4))
     }];
     assert!(rt; go_then(rt.alloc(), &of_peer));
 }
 
 #[test]
 fn other_notifications_stay(rt: HostRuntime) {
-    let short = filled(NOTICE, b'm', 1024);
-    let unknown = filled(b"\x51\x45\x03\xe8\x4f\x61\x02\x62\x01\x0f\xff", b'm', 1030);
+    let short = with_payload(NOTICE, b'm', 1024);
+    let unknown = with_payload(b"\x51\x45\x03\xe8\x4f\x61\x02\x62\x01\x0f\xff", b'm', 1030);
     let stay = [
-        step(Came::Nothing, short, short),
-        step(Came::Nothing, unknown, unknown),
+        sent_to_0(Came::Nothing, short, short),
+        sent_to_0(Came::Nothing, unknown, unknown),
         Step {
             peer: 1,
-            ..step(Came::Nothing, LONG, LONG)
+            ..sent_to_0(Came::Nothing, LONG, LONG)
         },
-        step(Came::Restart, LONG, LONG),
+        sent_to_0(Came::Restart, LONG, LONG),
     ];
     assert!(rt; go_then(rt.alloc(), &stay));
 }
