@@ -5,3 +5,5 @@ pub mod Gateways
 pub mod Kept
 pub mod Heard
 pub mod Serving
+pub mod Passing
+pub mod Over
