@@ -7,3 +7,5 @@ pub mod Heard
 pub mod Serving
 pub mod Passing
 pub mod Over
+pub mod Machine
+pub mod Acts

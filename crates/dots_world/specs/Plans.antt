@@ -1,7 +1,7 @@
 -- Which clients there are, of a server and of a gateway before it.
 use Rattle.std.specs.Prelude.{◌≡◌, ◌≢◌, ℕ, Bool, true, false, not, ◌&&◌, ◌==◌, if◌then◌else◌, IsTrue, List, slice_get, position, unwrap_or, Option, Some, None, option_map, bytes_eq}
 use Rattle.dots_settings.specs.declared.peer.Role.TheVariants as role
-use Rattle.dots_settings.specs.Settings.{SettingsValue}
+use Rattle.dots_settings.specs.Settings.{SettingsValue, IsSettings}
 use Rattle.dots_settings.specs.Lookups.{role_of}
 use Rattle.dots_heads.specs.Operations.{is_client_name}
 use Rattle.dots_gateway.specs.Routes.{routes_of, domain_for}
@@ -88,6 +88,7 @@ pub record IsPlanClient (plan : Plan) (c : PlanClient) : Type 0 where
 
 -- No two of those that ask the server have one peer number, and no two of those that ask the gateway.
 pub record IsPlan (plan : Plan) : Type 0 where
+  pub settings : IsSettings plan.settings
   pub gateway : role_of plan.settings plan.gateway ≡ role.Gateway
   pub names : (peer : ℕ) (name : List ℕ) → domain_for (routes_of plan.gateway_settings) (upstream_of plan) peer ≡ Some name → IsTrue (is_client_name name)
   pub clients : (i : ℕ) (c : PlanClient) → slice_get plan.clients i ≡ Some c → IsPlanClient plan c

@@ -1,0 +1,38 @@
+//! Laws of the world.
+
+ghost use Rattle.std.specs.Prelude.{◌≡◌, ◌≤◌, ◌^◌, ℕ, List, [], length, map, Contains};
+ghost use Rattle.dots_host.specs.Acts.{Timed};
+ghost use Rattle.dots_host.specs.Runs.{resting, Trace};
+ghost use Rattle.dots_history.specs.declared.entry.Entry.{Entry};
+ghost use Rattle.dots_client.specs.declared.granted.Granted.{Granted};
+ghost use Rattle.dots_client.specs.Client.{ClientValue};
+ghost use Rattle.dots_machine.specs.Machine.{State, begun_from, Step};
+ghost use Rattle.dots_world.specs.Plans.{PlanClient, Plan, IsPlan};
+ghost use Rattle.dots_world.specs.Worlds.{World, WorldEvent, begun, IsClient, Runs};
+ghost use Rattle.dots_world.specs.Granted.{IsGrantedTo, WasAsked};
+
+/// What a client's ledger shows as granted stands in the server's history: with its mid, its scope and its lifetime, for the client's domain and
+/// under its name. So it is after each list of at most 2^31 events, whatever was lost, repeated and reordered, and whenever the server and the
+/// gateway restarted.
+pub fn ledgers_are_granted()
+    ensures { (plan : Plan) (events : List WorldEvent) (world : World State) → IsPlan plan → length events ≤ 2 ^ 31
+        → Runs (Step plan.settings) plan (begun plan (begun_from plan.settings [])) events world
+        → (i : ℕ) (c : PlanClient) (client : ClientValue) (row : Granted) → IsClient plan world i c client → Contains client.ledger row
+        → IsGrantedTo plan world.server.history i row }
+{}
+
+/// Each entry of the server's history carries what a client asked, for the domain that the settings give this client and under its name, whatever
+/// cdid the client wrote.
+pub fn entries_are_asked()
+    ensures { (plan : Plan) (events : List WorldEvent) (world : World State) → IsPlan plan → length events ≤ 2 ^ 31
+        → Runs (Step plan.settings) plan (begun plan (begun_from plan.settings [])) events world
+        → (entry : Entry) → Contains world.server.history entry → WasAsked plan world.asks entry }
+{}
+
+/// The acts of the server are a run of its machine from the empty history to the state that it has, whatever their moments are.
+pub fn acts_are_a_run()
+    ensures { (plan : Plan) (events : List WorldEvent) (world : World State)
+        → Runs (Step plan.settings) plan (begun plan (begun_from plan.settings [])) events world
+        → (acts : List Timed) → map (λ (timed : Timed). timed.act) acts ≡ world.acts
+        → (trace : List State) × Trace (Step plan.settings) (resting (begun_from plan.settings [])) acts trace (resting world.server) }
+{}
