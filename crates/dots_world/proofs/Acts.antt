@@ -1,13 +1,13 @@
 -- The acts of the server are a run of its machine.
 use Rattle.std.specs.List.{range_with_len}
-use Rattle.std.proofs.Common.{◌≡◌, ℕ, max, Bool, true, List, [], ◌∷◌, ◌++◌, append-nil, length, map, slice_get, Option, Some, None, refl, sym, ap, ◌∙◌, subst}
+use Rattle.std.proofs.Common.{◌≡◌, ℕ, max, List, [], ◌∷◌, ◌++◌, length, map, slice_get, Option, Some, None, refl, sym, ap, ◌∙◌, subst}
 use Rattle.dots_host.specs.declared.event.Event.{Event}
 use Rattle.dots_host.specs.declared.event.Event.TheVariants as event
 use Rattle.dots_host.specs.declared.out.OwnedOut.{OwnedOut}
-use Rattle.dots_host.specs.Acts.{WireAct, took, gave, Timed}
+use Rattle.dots_host.specs.Acts.{WireAct, took, Timed}
 use Rattle.dots_host.specs.Runs.{Owing, resting, ToldStep, Trace, outs_of}
 use Rattle.dots_world.specs.Plans.{Party, a_client, the_gateway, the_server, Plan}
-use Rattle.dots_world.specs.Worlds.{Packet, World, begun, WorldEvent, asks, ticks, restarts, gateway_restarts, delivers, sent_act, served, Serves, AsksFor, made, unmade, HandsOut, AllHandOut, Comes, Delivers, Begins, Happens, Runs}
+use Rattle.dots_world.specs.Worlds.{Packet, World, begun, WorldEvent, asks, ticks, restarts, gateway_restarts, delivers, sent_act, Serves, made, unmade, AllHandOut, Comes, Delivers, Begins, Runs}
 
 -- acts without their moments
 abbrev pub acts_of : List Timed → List WireAct
@@ -27,8 +27,8 @@ acts_back (act ∷ acts) = ap (λ rest. act ∷ rest) (acts_back acts)
 module _ {S : Type 0} (step : S → Event → ℕ → List (S × OwnedOut) → S → Type 0) where
   trace_then : (xs ys : List Timed) (t u : List S) (old between new : Owing S) → Trace step old xs t between → Trace step between ys u new → Trace step old (xs ++ ys) (t ++ u) new
   trace_then [] ys [] u old between new first second = subst (λ o. Trace step o ys u new) first second
-  trace_then (x ∷ xs) ys (told ∷ t) u old between new first second = (first.0, first.1, trace_then xs ys t u first.0 between new first.2 second)
-  trace_then [] ys (told ∷ t) u old between new first second = absurd first
+  trace_then (x ∷ xs) ys (state ∷ t) u old between new first second = (first.0, first.1, trace_then xs ys t u first.0 between new first.2 second)
+  trace_then [] ys (state ∷ t) u old between new first second = absurd first
   trace_then (x ∷ xs) ys [] u old between new first second = absurd first
 
   -- the moments are nothing to a trace
@@ -37,10 +37,10 @@ module _ {S : Type 0} (step : S → Event → ℕ → List (S × OwnedOut) → S
   retimed [] (y ∷ ys) t old new same trace = absurd (cc same)
   retimed (x ∷ xs) [] t old new same trace = absurd (cc same)
   retimed (x ∷ xs) (y ∷ ys) [] old new same trace = absurd trace
-  retimed (x ∷ xs) (y ∷ ys) (told ∷ t) old new same trace =
+  retimed (x ∷ xs) (y ∷ ys) (state ∷ t) old new same trace =
       let act : x.act ≡ y.act = cc same in
       let rest : acts_of xs ≡ acts_of ys = cc same in
-      (trace.0, subst (λ a. ToldStep step old a told trace.0) act trace.1, retimed xs ys t trace.0 new rest trace.2)
+      (trace.0, subst (λ a. ToldStep step old a state trace.0) act trace.1, retimed xs ys t trace.0 new rest trace.2)
 
   -- the sends that are owed
   sends_traced : (s : S) (owed : List (S × OwnedOut)) → (trace : List S) × Trace step (record { last = s; owed = owed }) (map untimed (map sent_act (outs_of owed))) trace (resting s)
@@ -63,9 +63,11 @@ module _ {S : Type 0} (step : S → Event → ℕ → List (S × OwnedOut) → S
     served_run : (old : World S) (came : Event) (new : World S) → Run old → Serves step plan old came new → Run new
     served_run old came new run (owed, server, st, leaves) =
         subst Run (sym leaves)
-        (let more = event_traced old.server came old.time owed server st in
-        (run.0 ++ more.0, subst (λ acts. Trace step (resting start) acts (run.0 ++ more.0) (resting server)) (sym (map_append untimed old.acts (took came old.time ∷ map sent_act (outs_of owed))))
-        (trace_then (map untimed old.acts) _ run.0 more.0 (resting start) (resting old.server) (resting server) run.1 more.1)))
+        (let more = event_traced old.server came old.time owed server st in (
+          run.0 ++ more.0,
+          subst (λ acts. Trace step (resting start) acts (run.0 ++ more.0) (resting server)) (sym (map_append untimed old.acts (took came old.time ∷ map sent_act (outs_of owed))))
+              (trace_then (map untimed old.acts) _ run.0 more.0 (resting start) (resting old.server) (resting server) run.1 more.1),
+        ))
 
     all_run : (places : List ℕ) (old new : World S) → Run old → AllHandOut plan places old new → Run new
     all_run [] old new run h = subst Run (sym h) run

@@ -1,11 +1,9 @@
 -- What the steps of a client leave of its requests and of its ledger.
-use Rattle.std.proofs.Common.{◌≡◌, ◌⊎◌, inl, inr, ℕ, ℤ, ◌<◌, ◌+◌, ◌==◌, Bool, true, false, cond, nat_lt, List, [], ◌∷◌, ◌++◌, filter, find, Contains, Option, Some, None, option_map, refl, sym, ap, ◌∙◌, subst, arith}
+use Rattle.std.proofs.Common.{◌≡◌, ◌⊎◌, inl, inr, ℕ, ◌==◌, Bool, true, false, cond, nat_lt, List, [], ◌∷◌, ◌++◌, find, Contains, Option, Some, None, option_map, refl, sym, ap, ◌∙◌, subst}
 use Rattle.std.specs.Int.{w64, to_be_bytes}
-use Rattle.std.specs.Prelude.{bytes_eq}
 use Rattle.std.specs.List.{list_any}
 use Rattle.std.proofs.lemmas.Option.{none-some, same_Some}
 use Rattle.std.proofs.lemmas.Slice.Eq.{bytes_eq-Decides}
-use Rattle.acl_lists.specs.declared.asked.Asked.{Asked}
 use Rattle.coap_exchange.specs.Firsts.{replace_first, without_first}
 use Rattle.coap_exchange.specs.Sent.{is_due, may_repeat}
 use Rattle.coap_message.specs.Message.{CoapMessage, IsMessage, spelling}
@@ -14,9 +12,9 @@ use Rattle.dots_client.specs.declared.heard.Heard.{Heard}
 use Rattle.dots_client.specs.declared.heard.Heard.TheVariants as heard
 use Rattle.dots_client.specs.declared.request.Request.{Request}
 use Rattle.dots_client.specs.Answers.{GrantsMid}
-use Rattle.dots_client.specs.Client.{ClientValue, WaitingValue, is_unsent, handed_out, again, bytes_of, repeat_answer, repeat_after, due_answer, due_after, tick_answer, tick_after, milliseconds, left_at}
-use Rattle.dots_client.specs.Hearing.{Hears, Answers, Tells, IsBeat, beat_answer, waits_by, granted_row}
-use Rattle.dots_client.specs.Ledger.{with_row, without_row}
+use Rattle.dots_client.specs.Client.{ClientValue, WaitingValue, is_unsent, handed_out, again, bytes_of, repeat_answer, repeat_after, due_after, tick_answer, tick_after, milliseconds}
+use Rattle.dots_client.specs.Receiving.{Receives, Answers, Yields, waits_by, granted_row}
+use Rattle.dots_client.specs.Ledger.{with_row}
 use Rattle.dots_world.specs.Worlds.{Drains}
 use Rattle.dots_world.proofs.Lists.{not_in_none, contains_first, contains_more, contains_cases, filtered, found_in}
 
@@ -146,13 +144,13 @@ drained now old (message ∷ messages) new d =
       λ bytes there. elim (contains_cases message messages bytes there) [
         | inl is ↦ subst (IsHandedFrom old.waiting) is (tick_bytes now old message d.0)
         | inr more ↦
-          let later = rest.1 bytes more in
-          let before = less.waiting later.0 later.1 in
-          (before.0, before.1, later.2 ∙ sym before.2.bytes)
+            let later = rest.1 bytes more in
+            let before = less.waiting later.0 later.1 in
+            (before.0, before.1, later.2 ∙ sym before.2.bytes)
       ],
     )
 
--- ---- what is heard
+-- ---- what is received
 
 without_less : (t : WaitingValue → Bool) (ws : List WaitingValue) → AreLess ws (without_first t ws)
 without_less t [] = none_less
@@ -184,7 +182,7 @@ one_row_more new (r ∷ rows) row there = by (nat_lt r.mid new.mid) (r.mid == ne
     by false false there rest = elim (contains_cases new (r ∷ rows) row there) [ inl is ↦ inl is | inr old ↦ inr old ]
 
 -- the bytes grant the mitigation of a request that waits
-pub record IsGrantHeard (k : ClientValue) (bytes : List ℕ) (row : Granted) : Type 0 where
+pub record IsGrantReceived (k : ClientValue) (bytes : List ℕ) (row : Granted) : Type 0 where
   pub w : WaitingValue
   pub waits : Contains k.waiting w
   pub message : CoapMessage
@@ -195,27 +193,27 @@ pub record IsGrantHeard (k : ClientValue) (bytes : List ℕ) (row : Granted) : T
   pub mid : row.mid ≡ w.request.mid
   pub grants : GrantsMid row.mid message row.lifetime
 
--- What a client hears leaves less of it, or one row more beside that.
-pub record AreHeard (old : ClientValue) (bytes : List ℕ) (new : ClientValue) : Type 0 where
+-- What a client receives leaves less of it, or one row more beside that.
+pub record AreReceived (old : ClientValue) (bytes : List ℕ) (new : ClientValue) : Type 0 where
   pub cuid : new.cuid ≡ old.cuid
   pub number : new.number ≡ old.number
   pub mid : new.mid ≡ old.mid
   pub waiting : AreLess old.waiting new.waiting
-  pub rows : (row : Granted) → Contains new.ledger row → Contains old.ledger row ⊎ IsGrantHeard old bytes row
+  pub rows : (row : Granted) → Contains new.ledger row → Contains old.ledger row ⊎ IsGrantReceived old bytes row
 
-heard_less : (old : ClientValue) (bytes : List ℕ) (new : ClientValue) → IsLess old new → AreHeard old bytes new
-heard_less old bytes new is = record { cuid = is.cuid; number = is.number; mid = is.mid; waiting = is.waiting; rows = λ row there. inl (is.rows row there) }
+received_less : (old : ClientValue) (bytes : List ℕ) (new : ClientValue) → IsLess old new → AreReceived old bytes new
+received_less old bytes new is = record { cuid = is.cuid; number = is.number; mid = is.mid; waiting = is.waiting; rows = λ row there. inl (is.rows row there) }
 
-heard_same : (old : ClientValue) (bytes : List ℕ) (new : ClientValue) → new ≡ old → AreHeard old bytes new
-heard_same old bytes new is = heard_less old bytes new (subst (IsLess old) (sym is) (same_less old))
+received_same : (old : ClientValue) (bytes : List ℕ) (new : ClientValue) → new ≡ old → AreReceived old bytes new
+received_same old bytes new is = received_less old bytes new (subst (IsLess old) (sym is) (same_less old))
 
 waiting_token : (m : CoapMessage) (ws : List WaitingValue) (w : WaitingValue) → find (waits_by m.token) ws ≡ Some w → m.token ≡ to_be_bytes w64 w.request.number
 waiting_token m ws w found = sym ((bytes_eq-Decides (to_be_bytes w64 w.request.number) m.token).0 (found_in (waits_by m.token) ws w found).1)
 
-heard_grant : (old : ClientValue) (bytes : List ℕ) (now : ℕ) (m : CoapMessage) (request : Request) (mid : ℕ) (new : ClientValue) → IsMessage m → bytes ≡ spelling m
-    → Answers old m request → Tells old request m now (heard.Granted mid) new → AreHeard old bytes new
-heard_grant old bytes now m request mid new is spelled answers (mid_is, asked, lifetime, scope, grants, leaves) =
-    subst (AreHeard old bytes) (sym leaves) (record {
+received_grant : (old : ClientValue) (bytes : List ℕ) (now : ℕ) (m : CoapMessage) (request : Request) (mid : ℕ) (new : ClientValue) → IsMessage m → bytes ≡ spelling m
+    → Answers old m request → Yields old request m now (heard.Granted mid) new → AreReceived old bytes new
+received_grant old bytes now m request mid new is spelled answers (mid_is, asked, lifetime, scope, grants, leaves) =
+    subst (AreReceived old bytes) (sym leaves) (record {
       cuid = refl;
       number = refl;
       mid = refl;
@@ -223,8 +221,8 @@ heard_grant old bytes now m request mid new is spelled answers (mid_is, asked, l
       rows = rows;
     })
   where
-    row_heard : IsGrantHeard old bytes (granted_row mid asked lifetime now)
-    row_heard = record {
+    row_received : IsGrantReceived old bytes (granted_row mid asked lifetime now)
+    row_received = record {
       w = answers.sent.0;
       waits = (found_in (waits_by m.token) old.waiting answers.sent.0 answers.sent.1).0;
       message = m;
@@ -235,18 +233,19 @@ heard_grant old bytes now m request mid new is spelled answers (mid_is, asked, l
       mid = mid_is ∙ sym (ap (λ (r : Request). r.mid) answers.sent.2);
       grants = subst (λ n. GrantsMid n m lifetime) (sym mid_is) grants;
     }
-    rows : (row : Granted) → Contains (with_row (granted_row mid asked lifetime now) old.ledger) row → Contains old.ledger row ⊎ IsGrantHeard old bytes row
+
+    rows : (row : Granted) → Contains (with_row (granted_row mid asked lifetime now) old.ledger) row → Contains old.ledger row ⊎ IsGrantReceived old bytes row
     rows row there = elim (one_row_more (granted_row mid asked lifetime now) old.ledger row there) [
-      | inl same ↦ inr (subst (IsGrantHeard old bytes) same row_heard)
+      | inl same ↦ inr (subst (IsGrantReceived old bytes) same row_received)
       | inr before ↦ inl before
     ]
 
-pub hears : (old : ClientValue) (bytes : List ℕ) (now : ℕ) (said : Heard) (new : ClientValue) → Hears old bytes now said new → AreHeard old bytes new
-hears old bytes now (heard.Beat answer) new h = heard_same old bytes new h.5
-hears old bytes now heard.Nothing new h = heard_same old bytes new h.1
-hears old bytes now heard.NoMemory new h = heard_same old bytes new h.6
-hears old bytes now (heard.Granted mid) new h = heard_grant old bytes now h.0 h.1 mid new h.2 h.3 h.4 h.5
-hears old bytes now (heard.Withdrawn mid) new h =
-    subst (AreHeard old bytes) (sym h.5.3) (record { cuid = refl; number = refl; mid = refl; waiting = without_less (waits_by h.0.token) old.waiting; rows = λ row there. inl (fewer_rows _ old.ledger row there) })
-hears old bytes now (heard.Refused mid code) new h =
-    subst (AreHeard old bytes) (sym h.5.4) (record { cuid = refl; number = refl; mid = refl; waiting = without_less (waits_by h.0.token) old.waiting; rows = λ row there. inl there })
+pub receives : (old : ClientValue) (bytes : List ℕ) (now : ℕ) (said : Heard) (new : ClientValue) → Receives old bytes now said new → AreReceived old bytes new
+receives old bytes now (heard.Beat answer) new h = received_same old bytes new h.5
+receives old bytes now heard.Nothing new h = received_same old bytes new h.1
+receives old bytes now heard.NoMemory new h = received_same old bytes new h.6
+receives old bytes now (heard.Granted mid) new h = received_grant old bytes now h.0 h.1 mid new h.2 h.3 h.4 h.5
+receives old bytes now (heard.Withdrawn mid) new h =
+    subst (AreReceived old bytes) (sym h.5.3) (record { cuid = refl; number = refl; mid = refl; waiting = without_less (waits_by h.0.token) old.waiting; rows = λ row there. inl (fewer_rows _ old.ledger row there) })
+receives old bytes now (heard.Refused mid code) new h =
+    subst (AreReceived old bytes) (sym h.5.4) (record { cuid = refl; number = refl; mid = refl; waiting = without_less (waits_by h.0.token) old.waiting; rows = λ row there. inl there })

@@ -1,9 +1,9 @@
 -- What a gateway does with a datagram of a client, and with one of its upstream.
 use Rattle.std.specs.Prelude.{bytes_eq}
 use Rattle.std.specs.Int.{w64, to_be_bytes}
-use Rattle.std.proofs.Common.{◌≡◌, ◌≢◌, ◌⊎◌, inl, inr, ℕ, ℤ, ◌<◌, ◌≤◌, ◌^◌, ◌/◌, ◌%◌, ◌&&◌, ◌||◌, ◌==◌, not, Bool, true, false, cond, List, [], ◌∷◌, ◌++◌, length, find, Contains, Option, Some, None, Result, Ok, Err, refl, sym, ap, ◌∙◌, subst, arith}
+use Rattle.std.proofs.Common.{◌≡◌, ◌⊎◌, inl, inr, ℕ, ℤ, ◌<◌, ◌≤◌, ◌^◌, ◌/◌, ◌%◌, ◌==◌, not, Bool, true, false, cond, List, [], ◌∷◌, length, find, Contains, Option, Some, None, Result, Ok, Err, refl, sym, ap, ◌∙◌, subst, arith}
 use Rattle.std.specs.Prelude.{⊤}
-use Rattle.std.proofs.lemmas.Bool.{and_parts, eqb-true}
+use Rattle.std.proofs.lemmas.Bool.{and_parts}
 use Rattle.std.proofs.lemmas.Slice.Eq.{bytes_eq-Decides}
 use Rattle.coap_message.specs.declared.codes.TheConstants.{CREATED, CHANGED}
 use Rattle.coap_message.specs.declared.kind.Kind.{Kind}
@@ -11,6 +11,10 @@ use Rattle.coap_message.specs.declared.kind.Kind.TheVariants.{Con, Non, Ack, Rst
 use Rattle.coap_message.specs.Message.{CoapOption, CoapMessage, IsMessage, AreOptions, spelling}
 use Rattle.coap_message.specs.Salvage.{salvaged}
 use Rattle.coap_message.proofs.Whole.{one_message}
+use Rattle.coap_replies.specs.declared.dismissal.Dismissal.{Dismissal}
+use Rattle.coap_replies.specs.declared.dismissal.Dismissal.TheVariants as dismissal
+use Rattle.coap_replies.specs.Exchanges.{exchange_in, reply_kind, is_request, rejected, dismissed_unread}
+use Rattle.coap_replies.specs.Replies.{plain, rejection}
 use Rattle.dots_heads.specs.declared.reject.Reject.{Reject}
 use Rattle.dots_heads.specs.declared.reject.Reject.TheVariants as reject
 use Rattle.dots_heads.specs.RejectText.{reject_code, reject_text}
@@ -19,12 +23,11 @@ use Rattle.dots_gateway.specs.declared.exchange.Waiting.{Waiting}
 use Rattle.dots_gateway.specs.declared.passed.Passed.{Passed}
 use Rattle.dots_gateway.specs.declared.passed.Passed.TheVariants as passed
 use Rattle.dots_gateway.specs.declared.passed.GatewayFault.TheVariants as fault
-use Rattle.dots_gateway.specs.Exchanges.{ExchangesValue, is_full, exchange_for, id_of, is_from, is_passed}
-use Rattle.dots_gateway.specs.Forwarding.{forwarded, answered, answer_kind, without_observe}
-use Rattle.dots_gateway.specs.Gateway.{GatewayValue, Said, Ups, of_no_client, unreadable, asking, rejected, unread, refused, refused_option, came_again, passed_again, passed_first, passed_by, passed_on, wanted_said, asked_said, Downs, no_message, beating, answering, IsBeat, is_response, answer_to, response_said, beat_answer}
-use Rattle.dots_gateway.specs.Replies.{reply_kind, plain, rejection, reset_message}
+use Rattle.dots_gateway.specs.Exchanges.{is_full, exchange_for, id_of, is_from, is_passed}
+use Rattle.dots_gateway.specs.Forwarding.{forwarded, answered, without_observe}
+use Rattle.dots_gateway.specs.Gateway.{GatewayValue, Said, Ups, of_no_client, unreadable, asking, dismissed_said, refused, refused_option, came_again, passed_by, passed_on, wanted_said, asked_said, Downs, no_message, beating, answering, is_response, answer_to, beat_answer}
 use Rattle.dots_gateway.specs.Routes.{domain_for}
-use Rattle.dots_gateway.specs.Wanted.{Passage, Wanted, beat, passage, is_request, may_ask, hop_in, wanted_of}
+use Rattle.dots_gateway.specs.Wanted.{Passage, Wanted, beat, passage, hop_in, wanted_of}
 use Rattle.cbor_profile.specs.Spelling.{Spells}
 use Rattle.reply_bodies.specs.Mitigations.{granted_tree}
 use Rattle.machine_laws.specs.Granting.{IsGrant}
@@ -75,23 +78,18 @@ module _ (g : GatewayValue) (peer : ℕ) (datagram : List ℕ) where
   UpFine (Ok (passed.Reply to bytes)) = (to ≡ peer) × IsQuiet bytes
   UpFine _ = ⊤
 
-  rejected_fine : (kind : Kind) (id : ℕ) → UpFine (rejected peer kind id)
-  rejected_fine Con id = (refl, quiet (record { kind = Rst; code = 0; identifier = id; token = []; options = []; payload = [] }) refl)
-  rejected_fine Non id = tt
-  rejected_fine Ack id = tt
-  rejected_fine Rst id = tt
+  dismissed_fine : (d : Dismissal) → UpFine (dismissed_said peer d)
+  dismissed_fine (dismissal.Reset id) = (refl, quiet (record { kind = Rst; code = 0; identifier = id; token = []; options = []; payload = [] }) refl)
+  dismissed_fine (dismissal.Rejected id) = tt
+  dismissed_fine dismissal.Ignored = tt
 
-  unread_fine : (o : Option (Kind × ℕ)) → UpFine (unread peer o)
-  unread_fine None = tt
-  unread_fine (Some message) = rejected_fine message.0 message.1
-
-  option_fine : (kind : Kind) (m : CoapMessage) (number : ℕ) → UpFine (refused_option peer kind (rejection m (reject.Critical number)))
+  option_fine : (kind : Kind) (m : CoapMessage) (number : ℕ) → UpFine (refused_option peer kind (rejection (exchange_in m) (reject.Critical number)))
   option_fine Con m number = (refl, quiet (plain_message 0x82 m (reject_text (reject.Critical number))) refl)
   option_fine Non m number = tt
   option_fine Ack m number = tt
   option_fine Rst m number = tt
 
-  said_fine : (m : CoapMessage) (r : Reject) → may_grant (reject_code r) ≡ false → UpFine (Ok (passed.Reply peer (rejection m r)))
+  said_fine : (m : CoapMessage) (r : Reject) → may_grant (reject_code r) ≡ false → UpFine (Ok (passed.Reply peer (rejection (exchange_in m) r)))
   said_fine m r none = (refl, quiet (plain_message (reject_code r) m (reject_text r)) none)
 
   refused_fine : (m : CoapMessage) (r : Reject) → UpFine (refused peer m r)
@@ -122,11 +120,11 @@ module _ (g : GatewayValue) (peer : ℕ) (datagram : List ℕ) where
 
       on_fine : UpFine (passed_on g.exchanges peer domain datagram m p)
       on_fine =
-          by_bool UpFine (p.hop == 1) (Ok (passed.Reply peer (plain 0xa8 m []))) (passed_by g.exchanges peer domain datagram m p (find (is_from peer m.identifier) g.exchanges.waiting))
+          by_bool UpFine (p.hop == 1) (Ok (passed.Reply peer (plain 0xa8 (exchange_in m) []))) (passed_by g.exchanges peer domain datagram m p (find (is_from peer m.identifier) g.exchanges.waiting))
           (λ last. (refl, quiet (plain_message 0xa8 m []) refl)) (λ more. by_fine (find (is_from peer m.identifier) g.exchanges.waiting) refl)
 
     -- an answer without a payload grants nothing
-    beat_quiet : IsQuiet (plain CHANGED m [])
+    beat_quiet : IsQuiet (plain CHANGED (exchange_in m) [])
     beat_quiet says =
         let right : IsMessage (plain_message CHANGED m []) = record { code = omega arith; identifier = is.identifier; token = is.token; options = tt; empty = λ none. absurd (cc none) } in
         says.filled (ap (λ (n : CoapMessage). n.payload) (one_message says.message (plain_message CHANGED m []) says.is_message right (sym says.spelled)))
@@ -139,12 +137,12 @@ module _ (g : GatewayValue) (peer : ℕ) (datagram : List ℕ) where
   asked_fine : (m : CoapMessage) (domain : List ℕ) → domain_for g.routes g.upstream peer ≡ Some domain → IsMessage m → datagram ≡ spelling m
       → UpFine (asked_said g.exchanges peer domain datagram m)
   asked_fine m domain of is spelled =
-      by_bool UpFine (is_request m) (wanted_said g.exchanges peer domain datagram m (wanted_of m)) (rejected peer m.kind m.identifier)
-      (λ asks. wanted_fine m domain of is spelled asks (wanted_of m) refl) (λ none. rejected_fine m.kind m.identifier)
+      by_bool UpFine (is_request m) (wanted_said g.exchanges peer domain datagram m (wanted_of m)) (dismissed_said peer (rejected m.kind m.identifier))
+      (λ asks. wanted_fine m domain of is spelled asks (wanted_of m) refl) (λ none. dismissed_fine (rejected m.kind m.identifier))
 
   pub ups_fine : (said : Said) → Ups g peer datagram said → UpFine said
   ups_fine said (of_no_client none is) = subst UpFine (sym is) tt
-  ups_fine said (unreadable domain of none is) = subst UpFine (sym is) (unread_fine (salvaged datagram))
+  ups_fine said (unreadable domain of none is) = subst UpFine (sym is) (dismissed_fine (dismissed_unread (salvaged datagram)))
   ups_fine said (asking domain m of message spelled is) = subst UpFine (sym is) (asked_fine m domain of message spelled)
 
 -- ---- a datagram of the upstream
@@ -177,7 +175,7 @@ module _ (g : GatewayValue) (datagram : List ℕ) where
   asks_nothing Ack code identifier token text some class = rw (some, class) refl
   asks_nothing Rst code identifier token text some class = rw (some, class) refl
 
-  plain_answer : (m : CoapMessage) (code : ℕ) (text : List ℕ) → IsMessage m → code < 256 → (code ≡ 0 → ⊥) → (code == 0) ≡ false → (code / 32 == 0) ≡ false → IsAnswer (plain code m text)
+  plain_answer : (m : CoapMessage) (code : ℕ) (text : List ℕ) → IsMessage m → code < 256 → (code ≡ 0 → ⊥) → (code == 0) ≡ false → (code / 32 == 0) ≡ false → IsAnswer (plain code (exchange_in m) text)
   plain_answer m code text is small some not_empty class = record {
     message = plain_message code m text;
     is_message = record { code = small; identifier = is.identifier; token = is.token; options = tt; empty = λ none. absurd (some none) };
@@ -187,7 +185,7 @@ module _ (g : GatewayValue) (datagram : List ℕ) where
 
   beaten : (m : CoapMessage) → IsMessage m → IsAnswer (beat_answer m)
   beaten m is =
-      by_bool IsAnswer (hop_in m.options == 0) (rejection m reject.HopLimit) (plain CHANGED m [])
+      by_bool IsAnswer (hop_in m.options == 0) (rejection (exchange_in m) reject.HopLimit) (plain CHANGED (exchange_in m) [])
       (λ spent. plain_answer m 0x80 (reject_text reject.HopLimit) is (omega arith) (λ none. cc none) refl refl)
       (λ more. plain_answer m CHANGED [] is (omega arith) (λ none. cc none) refl refl)
 

@@ -1,6 +1,6 @@
 -- What is true of each world that can be reached, by its parts.
 use Rattle.std.specs.Int.{w64, to_be_bytes}
-use Rattle.std.proofs.Common.{◌≡◌, ◌⊎◌, inl, inr, ℕ, ℤ, suc, ◌+◌, ◌<◌, ◌≤◌, ◌^◌, Bool, true, false, List, [], ◌∷◌, ◌++◌, length, slice_get, slice_set, position, Contains, Option, Some, None, option_map, refl, sym, ap, ◌∙◌, subst, arith}
+use Rattle.std.proofs.Common.{◌≡◌, ◌⊎◌, inl, inr, ℕ, ℤ, suc, ◌+◌, ◌<◌, ◌≤◌, ◌^◌, List, slice_get, slice_set, position, Contains, Option, Some, None, option_map, sym, ap, ◌∙◌, subst, arith}
 use Rattle.std.proofs.lemmas.Option.{same_Some}
 use Rattle.acl_lists.specs.declared.asked.Asked.{Asked}
 use Rattle.coap_message.specs.Message.{CoapMessage, IsMessage, spelling}
@@ -23,7 +23,7 @@ use Rattle.dots_world.specs.Plans.{Party, a_client, the_gateway, the_server, Pla
 use Rattle.dots_world.specs.Worlds.{Aim, mitigates, withdraws, MadeAsk, message_by, CanSay, Packet}
 use Rattle.dots_world.specs.Granted.{IsGrantedTo, IsOfAsk, HasNumber, IsExchangeOf, IsUnder, own, passed}
 use Rattle.dots_world.proofs.Lists.{set_cases}
-use Rattle.dots_world.proofs.Clients.{SameRequest, IsLess}
+use Rattle.dots_world.proofs.Clients.{SameRequest}
 use Rattle.dots_world.proofs.Messages.{IsAnswer}
 
 abbrev pub Within : {A : Type 0} → List A → List A → Type 0
@@ -48,16 +48,16 @@ pub record AsksInv (plan : Plan) (n : ℕ) (asks : List MadeAsk) : Type 0 where
 
 -- ---- entries
 
--- the grant that answers it tells what it says
-abbrev pub TellsGrant : Entry → Type 0
-TellsGrant e = (token : List ℕ) (mid : ℕ) (lifetime : ℤ) → IsGrant e.reply token mid lifetime → (put : Put) × (e.change ≡ change.Put put) × (mid ≡ put.mid) × (lifetime ≡ put.granted)
+-- a grant that answers it says what was granted
+abbrev pub SaysGrant : Entry → Type 0
+SaysGrant e = (token : List ℕ) (mid : ℕ) (lifetime : ℤ) → IsGrant e.reply token mid lifetime → (put : Put) × (e.change ≡ change.Put put) × (mid ≡ put.mid) × (lifetime ≡ put.granted)
 
 pub record IsFrom (plan : Plan) (asks : List MadeAsk) (kept : List Exchange) (e : Entry) : Type 0 where
   pub ask : MadeAsk
   pub there : Contains asks ask
   pub of : IsOfAsk plan e ask
   pub under : IsUnder plan kept e ask
-  pub tells : TellsGrant e
+  pub says : SaysGrant e
 
 abbrev pub EntriesInv : Plan → List MadeAsk → List Exchange → List Entry → Type 0
 EntriesInv plan asks kept history = (e : Entry) → Contains history e → IsFrom plan asks kept e
@@ -101,7 +101,7 @@ pub record IsMade (plan : Plan) (asks : List MadeAsk) (x : Exchange) : Type 0 wh
   pub of : IsExchangeOf plan ask x
   pub id : id_of x.key < 2 ^ 16
 
-pub record IsHeld (kept : List Exchange) (k : Waiting) : Type 0 where
+pub record IsOfKept (kept : List Exchange) (k : Waiting) : Type 0 where
   pub there : Contains kept k.exchange
   pub asked : (d : List ℕ) → k.asked ≡ Some d → (m : CoapMessage) × IsMessage m × (d ≡ spelling m) × (m.token ≡ k.exchange.token)
 
@@ -113,7 +113,7 @@ pub record GatewayInv (plan : Plan) (n : ℕ) (asks : List MadeAsk) (core : Gate
   pub last : (x : Exchange) → Contains kept x → x.number ≤ last_number kept
   pub one : (x y : Exchange) → Contains kept x → Contains kept y → x.number ≡ y.number → x ≡ y
   pub made : (x : Exchange) → Contains kept x → IsMade plan asks x
-  pub held : (k : Waiting) → Contains core.exchanges.waiting k → IsHeld kept k
+  pub waits : (k : Waiting) → Contains core.exchanges.waiting k → IsOfKept kept k
 
 -- ---- packets
 
@@ -196,7 +196,7 @@ module _ (plan : Plan) (asks asks2 : List MadeAsk) (kept kept2 : List Exchange) 
   under_more e a (passed x there of peer number) = passed x (more_kept x there) of peer number
 
   pub from_more : (e : Entry) → IsFrom plan asks kept e → IsFrom plan asks2 kept2 e
-  from_more e f = record { ask = f.ask; there = more_asks f.ask f.there; of = f.of; under = under_more e f.ask f.under; tells = f.tells }
+  from_more e f = record { ask = f.ask; there = more_asks f.ask f.there; of = f.of; under = under_more e f.ask f.under; says = f.says }
 
   pub waiting_more : (i : ℕ) (c : PlanClient) (v : WaitingValue) → IsWaiting asks i c v → IsWaiting asks2 i c v
   waiting_more i c v w = record { ask = w.ask; there = more_asks w.ask w.there; who = w.who; number = w.number; mid = w.mid; scope = w.scope; bytes = w.bytes }
@@ -268,7 +268,7 @@ raised_clients plan n asks history clients inv i c k planned there =
 pub raised_gateway : (plan : Plan) (n : ℕ) (asks : List MadeAsk) (core : GatewayValue) (kept : List Exchange) → GatewayInv plan n asks core kept → GatewayInv plan (suc n) asks core kept
 raised_gateway plan n asks core kept inv =
     let few = inv.next in
-    record { routes = inv.routes; upstream = inv.upstream; next = omega (arith, few); below = inv.below; last = inv.last; one = inv.one; made = inv.made; held = inv.held }
+    record { routes = inv.routes; upstream = inv.upstream; next = omega (arith, few); below = inv.below; last = inv.last; one = inv.one; made = inv.made; waits = inv.waits }
 
 -- ---- one client is changed
 
@@ -278,8 +278,8 @@ pub client_set : (plan : Plan) (P : ℕ → PlanClient → ClientValue → Type 
     → (j : ℕ) (d : PlanClient) (k : ClientValue) → slice_get plan.clients j ≡ Some d → slice_get (slice_set clients i new) j ≡ Some k → P j d k
 client_set plan P clients i c new planned one others j d k at there = elim (set_cases clients i new j k there) [
   | inl is ↦
-    let same : c ≡ d = same_Some c d (sym planned ∙ ap (slice_get plan.clients) (sym is.0) ∙ at) in
-    subst (λ m. P m d k) (sym is.0) (subst (λ e. P i e k) same (subst (P i c) is.1 one))
+      let same : c ≡ d = same_Some c d (sym planned ∙ ap (slice_get plan.clients) (sym is.0) ∙ at) in
+      subst (λ m. P m d k) (sym is.0) (subst (λ e. P i e k) same (subst (P i c) is.1 one))
   | inr other ↦ others j d k other.0 at other.1
 ]
 

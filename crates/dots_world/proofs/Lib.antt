@@ -3,7 +3,7 @@ pub mod Clients
 pub mod Messages
 pub mod Gateways
 pub mod Kept
-pub mod Heard
+pub mod Received
 pub mod Serving
 pub mod Passing
 pub mod Over

@@ -1,5 +1,5 @@
 -- What is in lists.
-use Rattle.std.proofs.Common.{◌≡◌, ◌⊎◌, inl, inr, ℕ, zero, suc, ◌<◌, ◌^◌, Bool, true, false, cond, List, [], ◌∷◌, ◌++◌, length, map, filter, flat_map, slice_get, slice_set, find, position, get_or, Contains, Option, Some, None, refl, sym, ap, ◌∙◌, subst, arith}
+use Rattle.std.proofs.Common.{◌≡◌, ◌⊎◌, inl, inr, ℕ, zero, suc, ◌<◌, ◌^◌, Bool, true, false, cond, List, [], ◌∷◌, ◌++◌, map, filter, flat_map, slice_get, slice_set, find, position, get_or, Contains, Some, refl, sym, ap, ◌∙◌, subst, arith}
 use Rattle.std.specs.Int.{w64, to_be_bytes, from_be_bytes}
 use Rattle.std.proofs.lemmas.List.Elements.{Contains-append_left, Contains-append_right, Contains-push, Contains-push_cases, Contains-append_cases}
 use Rattle.std.proofs.lemmas.List.Quantifiers.{position-Some}
@@ -56,7 +56,7 @@ gathered f (x ∷ xs) y c = elim (Contains-append_cases (f x) (flat_map f xs) y 
 pub got_in : {A : Type 0} (xs : List A) (i : ℕ) (x : A) → slice_get xs i ≡ Some x → Contains xs x
 got_in xs i x e = (i, slice_get_within xs i x e, get_or_from_slice_get xs i x x e)
 
--- at a place that is set stands what was set, and at each other one what stood there
+-- at a place that is set is what was set, and at each other one what was there
 pub set_cases : {A : Type 0} (xs : List A) (i : ℕ) (y : A) (j : ℕ) (z : A) → slice_get (slice_set xs i y) j ≡ Some z
     → ((j ≡ i) × (y ≡ z)) ⊎ ((j ≡ i → ⊥) × (slice_get xs j ≡ Some z))
 set_cases [] i y j z e = absurd (none-some z e)
@@ -73,7 +73,7 @@ found_in {A} p (y ∷ xs) x found = by (p y) refl found (λ is. found_in p xs x 
     by true pass is rest = let same = same_Some y x is in (subst (Contains (y ∷ xs)) same (contains_first y xs), subst (λ (z : A). p z ≡ true) same pass)
     by false fail is rest = let there = rest is in (contains_more y xs x there.0, there.1)
 
--- what stands at the first place that passes
+-- what is at the first place that passes
 pub placed : {A : Type 0} (p : A → Bool) (xs : List A) (i : ℕ) (d : A) → position p xs ≡ Some i → (x : A) × (slice_get xs i ≡ Some x) × (p x ≡ true)
 placed p xs i d e = let at = position-Some p xs i d e in (get_or xs i d, slice_get-get_or xs i d at.0, at.1)
 

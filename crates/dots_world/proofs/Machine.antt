@@ -1,16 +1,17 @@
 -- The machine is such a server.
-use Rattle.std.specs.Prelude.{IsTrue, if◌then◌else◌, int_lt}
+use Rattle.std.specs.Prelude.{IsTrue, if◌then◌else◌}
 use Rattle.std.specs.Int.{w64, to_be_bytes}
-use Rattle.std.proofs.Common.{◌≡◌, ◌⊎◌, inl, inr, ℕ, ℤ, pos, negsuc, suc, ◌+◌, ◌<◌, ◌≤◌, ◌^◌, ◌/◌, ◌==◌, ◌&&◌, not, Bool, true, false, cond, List, [], ◌∷◌, ◌++◌, length, Contains, Option, Some, None, Result, Ok, Err, refl, sym, ap, ◌∙◌, subst, arith}
+use Rattle.std.proofs.Common.{◌≡◌, inl, inr, ℕ, ℤ, ◌<◌, ◌≤◌, ◌^◌, ◌/◌, ◌==◌, ◌&&◌, not, Bool, true, false, List, [], length, Contains, Some, None, Ok, Err, refl, sym, ap, ◌∙◌, subst, arith}
 use Rattle.std.proofs.lemmas.Option.{same_Some}
-use Rattle.lifetime_clock.specs.Lifetime.{granted}
-use Rattle.acl_lists.specs.declared.asked.Asked.{Asked}
 use Rattle.cbor_profile.specs.Canon.{canon}
 use Rattle.coap_message.specs.declared.codes.TheConstants.{DELETED}
 use Rattle.coap_message.specs.declared.kind.Kind.{Kind}
 use Rattle.coap_message.specs.declared.kind.Kind.TheVariants.{Con, Non, Ack, Rst}
 use Rattle.coap_message.specs.Message.{CoapMessage, IsMessage, spelling}
 use Rattle.coap_message.proofs.Whole.{one_message}
+use Rattle.coap_replies.specs.declared.exchange.Exchange.{Exchange}
+use Rattle.coap_replies.specs.declared.dismissal.Dismissal.TheVariants as dismissal
+use Rattle.coap_replies.specs.Exchanges.{exchange_in, emptied, may_ask, is_request, rejected, dismissed}
 use Rattle.dots_host.specs.declared.event.Event.{Event}
 use Rattle.dots_host.specs.declared.event.Event.TheVariants as event
 use Rattle.dots_host.specs.declared.out.OwnedOut.{OwnedOut}
@@ -18,7 +19,7 @@ use Rattle.dots_host.specs.declared.out.OwnedOut.TheVariants as owned
 use Rattle.dots_host.specs.Runs.{outs_of}
 use Rattle.dots_settings.specs.declared.peer.Role.{Role}
 use Rattle.dots_settings.specs.declared.peer.Role.TheVariants as role
-use Rattle.dots_settings.specs.Settings.{SettingsValue, IsSettings}
+use Rattle.dots_settings.specs.Settings.{SettingsValue}
 use Rattle.dots_settings.specs.Lookups.{role_of}
 use Rattle.dots_heads.specs.declared.reject.Reject.{Reject}
 use Rattle.dots_heads.specs.declared.request.MitigationPath.{MitigationPath}
@@ -29,29 +30,21 @@ use Rattle.dots_keys.specs.declared.request.Request.TheVariants as request
 use Rattle.dots_keys.specs.declared.request.MitigationBody.{MitigationBody}
 use Rattle.dots_keys.specs.Mitigations.{has_target}
 use Rattle.dots_history.specs.declared.entry.Entry.{Entry}
-use Rattle.dots_history.specs.declared.put.Put.{Put}
 use Rattle.dots_history.specs.declared.change.Change.TheVariants as change
 use Rattle.reply_bodies.specs.Mitigations.{granted_tree}
-use Rattle.agent_messages.specs.Grants.{IsGranted}
 use Rattle.dots_gateway.specs.Forwarding.{forwarded}
-use Rattle.dots_gateway.specs.Wanted.{is_request}
-use Rattle.dots_gateway.specs.Wanted as of_gateway
-use Rattle.dots_machine.specs.declared.exchange.Exchange.{Exchange}
 use Rattle.dots_machine.specs.declared.received.Received.{Received}
 use Rattle.dots_machine.specs.declared.received.Received.TheVariants as received
-use Rattle.dots_machine.specs.declared.dismissal.Dismissal.{Dismissal}
-use Rattle.dots_machine.specs.declared.dismissal.Dismissal.TheVariants as dismissal
 use Rattle.dots_machine.specs.Answering.{AreBytes}
 use Rattle.dots_machine.specs.Apart.{domain_of}
 use Rattle.dots_machine.specs.Domains.{is_gateway}
-use Rattle.dots_machine.specs.Exchanges.{exchange_in, emptied, may_ask, rejected, dismissed}
 use Rattle.dots_machine.specs.Machine.{State, later, Step}
-use Rattle.dots_machine.specs.Replies.{grant_code, deleted}
+use Rattle.dots_machine.specs.Replies.{grant_code}
 use Rattle.dots_machine.specs.Requests.{received_as, IsReceived, unread, asks_nothing, meant}
 use Rattle.dots_machine.proofs.Hearing.{tick_history}
 use Rattle.machine_laws.specs.Adding.{CarriesPut, CarriesWithdrawal, CarriesRequest, AddsWhatIsAsked}
 use Rattle.machine_laws.specs.Adding as adding
-use Rattle.machine_laws.specs.Forwarding.{passage_for, asked_in, withdrawn_in}
+use Rattle.machine_laws.specs.Forwarding.{passage_for}
 use Rattle.machine_laws.specs.Granting.{IsGrant}
 use Rattle.machine_laws.specs.Reading.{IsReadAs}
 use Rattle.machine_laws.proofs.Adding.{step_adds}
@@ -63,8 +56,7 @@ use Rattle.machine_laws.proofs.Reading.{asking_read, withdrawing_read}
 use Rattle.machine_laws.proofs.Telling.{Says, quiet, plain_message, body_message, grant_says}
 use Rattle.dots_world.specs.Plans.{Plan, IsPlan, named_domain}
 use Rattle.dots_world.specs.Worlds.{Aim, mitigates, withdraws, message_with, CanSay}
-use Rattle.dots_world.specs.Granted.{HasNumber}
-use Rattle.dots_world.proofs.Kept.{TellsGrant, Answered}
+use Rattle.dots_world.proofs.Kept.{Answered}
 use Rattle.dots_world.proofs.Serving.{AddsOne, IsEntryOf, IsServing}
 
 abbrev pub history_of : State → List Entry
@@ -74,7 +66,7 @@ history_of s = s.history
 
 asks_then : (kind : Kind) (id : ℕ) (empty class : Bool)
     → (if empty then Some (emptied kind id) else if not (may_ask kind) then Some dismissal.Ignored else if not class then Some (rejected kind id) else None) ≡ None
-    → (of_gateway.may_ask kind && not empty && class) ≡ true
+    → (may_ask kind && not empty && class) ≡ true
 asks_then kind id true class e = absurd (cc e)
 asks_then Con id false true e = refl
 asks_then Non id false true e = refl
@@ -103,15 +95,6 @@ one_request x asked m made e = (cc, cc)
 
 -- ---- what an entry carries
 
-granted_one : (b : Bool) (seconds ceiling : ℕ) → 1 ≤ seconds → seconds < 2 ^ 31 → 1 ≤ ceiling → ceiling ≤ 604800 → IsGranted (cond b (pos ceiling) (pos seconds))
-granted_one true seconds ceiling some few first last = (first, omega (arith, last))
-granted_one false seconds ceiling some few first last = (some, few)
-
-granted_lasts : (lifetime : ℤ) (ceiling : ℕ) (indefinite : Bool) → IsGranted lifetime → 1 ≤ ceiling → ceiling ≤ 604800 → IsGranted (granted lifetime (pos ceiling) indefinite)
-granted_lasts (pos seconds) ceiling indefinite is first last = granted_one (int_lt (pos ceiling) (pos seconds)) seconds ceiling is.0 is.1 first last
-granted_lasts (negsuc n) ceiling true is first last = refl
-granted_lasts (negsuc n) ceiling false is first last = (first, omega (arith, last))
-
 body_fits : (refreshed : Bool) (x : Exchange) (body : List ℕ) → x.id < 2 ^ 16 → length x.token ≤ 8 → IsMessage (body_message (grant_code refreshed) x body)
 body_fits true x body id token = record { code = omega arith; identifier = id; token = token; options = (omega arith, omega arith, omega arith, tt); empty = λ none. absurd (cc none) }
 body_fits false x body id token = record { code = omega arith; identifier = id; token = token; options = (omega arith, omega arith, omega arith, tt); empty = λ none. absurd (cc none) }
@@ -121,11 +104,11 @@ module _ (plan : Plan) (is_plan : IsPlan plan) (time peer : ℕ) (datagram : Lis
   short : length m.token ≤ 8
   short = subst (λ (t : List ℕ). length t ≤ 8) (sym token) (omega arith)
 
-  of_put : (path : MitigationPath) (body : MitigationBody) → path.cuid ≡ cuid → path.mid ≡ Some mid → mid < 2 ^ 32 → IsGranted body.lifetime → c.asked ≡ request.PutMitigation path body
+  of_put : (path : MitigationPath) (body : MitigationBody) → path.cuid ≡ cuid → path.mid ≡ Some mid → c.asked ≡ request.PutMitigation path body
       → IsEntryOf plan peer number cuid mid (mitigates body.asked body.lifetime) e
-  of_put path body named mid_is small lasts asked =
+  of_put path body named mid_is asked =
       let p : CarriesPut plan.settings (exchange_in m) path body e =
-          subst (λ x. CarriesPut plan.settings x path body e) same (subst (λ r. adding.Carries plan.settings c.exchange r e) asked c.carries) in
+      subst (λ x. CarriesPut plan.settings x path body e) same (subst (λ r. adding.Carries plan.settings c.exchange r e) asked c.carries) in
       let mids : p.put.mid ≡ mid = same_Some p.put.mid mid (sym p.mid ∙ mid_is) in
       record {
         of_peer = c.peer_is;
@@ -137,21 +120,17 @@ module _ (plan : Plan) (is_plan : IsPlan plan) (time peer : ℕ) (datagram : Lis
           spelled = p.reply;
           token = token;
         };
-        tells = λ other other_mid lifetime g.
+        says = λ other other_mid lifetime g.
             let k = kept_grant plan.settings time peer datagram e other other_mid lifetime c g in
-            let puts : k.put ≡ p.put = one_put k.put p.put (sym k.changes ∙ p.changes) in
-            let least = subst IsGranted (sym (ap (λ (q : Put). q.granted) puts ∙ p.lasts)) (granted_lasts body.lifetime plan.settings.ceiling plan.settings.indefinite lasts is_plan.settings.some_ceiling is_plan.settings.most_ceiling) in
-            let told = k.same (subst (λ n. n < 2 ^ 32) (sym (ap (λ (q : Put). q.mid) puts ∙ mids)) small) least in
-            (k.put, k.changes, told.1, told.2);
+            let most = is_plan.settings.most_ceiling in
+            let said = k.same (k.within (omega (arith, most))) in
+            (k.put, k.changes, said.1, said.2);
       }
-    where
-      one_put : (one other : Put) → change.Put one ≡ change.Put other → one ≡ other
-      one_put one other is = cc
 
   of_withdrawal : (path : MitigationPath) → path.cuid ≡ cuid → path.mid ≡ Some mid → c.asked ≡ request.DeleteMitigation path → IsEntryOf plan peer number cuid mid withdraws e
   of_withdrawal path named mid_is asked =
       let p : CarriesWithdrawal (exchange_in m) path e =
-          subst (λ x. CarriesWithdrawal x path e) same (subst (λ r. adding.Carries plan.settings c.exchange r e) asked c.carries) in
+      subst (λ x. CarriesWithdrawal x path e) same (subst (λ r. adding.Carries plan.settings c.exchange r e) asked c.carries) in
       let mids : p.mid ≡ mid = same_Some p.mid mid (sym p.mid_is ∙ mid_is) in
       record {
         of_peer = c.peer_is;
@@ -163,7 +142,7 @@ module _ (plan : Plan) (is_plan : IsPlan plan) (time peer : ℕ) (datagram : Lis
           spelled = p.reply;
           token = token;
         };
-        tells = λ other other_mid lifetime g. absurd (quiet (plain_message DELETED (exchange_in m) []) refl (subst Says p.reply (grant_says e.reply other other_mid lifetime g)));
+        says = λ other other_mid lifetime g. absurd (quiet (plain_message DELETED (exchange_in m) []) refl (subst Says p.reply (grant_says e.reply other other_mid lifetime g)));
       }
 
 -- ---- the laws
@@ -203,23 +182,21 @@ module _ (plan : Plan) (is_plan : IsPlan plan) where
     asked_adds (mitigates asked lifetime) can are st =
         adds_by old.history new.history (later old at).time peer _ (Wanted (mitigates asked lifetime)) (step_adds plan.settings old peer _ at owed new st)
         (λ e c.
-          let m = message_with number cuid mid (mitigates asked lifetime) in
-          let got = received_so m e c _ (asking_read number mid cuid asked lifetime named small can.0 can.1 can.2 are) in
-          let is = request_is c.exchange c.asked m (has_target asked) (request.PutMitigation (record { cdid = None; cuid = cuid; mid = Some mid }) (record { asked = asked; lifetime = lifetime })) (missing 6) got in
-          (
-            same_Some e.domain domain (sym (domain_is (role.Client domain) peer c.asked _ domain e.domain whose is.1 c.domain_is)),
-            of_put plan is_plan (later old at).time peer _ e c m number mid cuid (omega arith) refl is.0 (record { cdid = None; cuid = cuid; mid = Some mid }) (record { asked = asked; lifetime = lifetime }) refl refl small can.1 is.1,
-          ))
+        let m = message_with number cuid mid (mitigates asked lifetime) in
+        let got = received_so m e c _ (asking_read number mid cuid asked lifetime named small can.0 can.1 can.2 are) in
+        let is = request_is c.exchange c.asked m (has_target asked) (request.PutMitigation (record { cdid = None; cuid = cuid; mid = Some mid }) (record { asked = asked; lifetime = lifetime })) (missing 6) got in (
+          same_Some e.domain domain (sym (domain_is (role.Client domain) peer c.asked _ domain e.domain whose is.1 c.domain_is)),
+          of_put plan is_plan (later old at).time peer _ e c m number mid cuid (omega arith) refl is.0 (record { cdid = None; cuid = cuid; mid = Some mid }) (record { asked = asked; lifetime = lifetime }) refl refl is.1,
+        ))
     asked_adds withdraws can are st =
         adds_by old.history new.history (later old at).time peer _ (Wanted withdraws) (step_adds plan.settings old peer _ at owed new st)
         (λ e c.
-          let m = message_with number cuid mid withdraws in
-          let got = received_so m e c _ (withdrawing_read number mid cuid named small are) in
-          let is = one_request c.exchange c.asked m (request.DeleteMitigation (record { cdid = None; cuid = cuid; mid = Some mid })) got in
-          (
-            same_Some e.domain domain (sym (domain_is (role.Client domain) peer c.asked _ domain e.domain whose is.1 c.domain_is)),
-            of_withdrawal plan is_plan (later old at).time peer _ e c m number mid cuid (omega arith) refl is.0 (record { cdid = None; cuid = cuid; mid = Some mid }) refl refl is.1,
-          ))
+        let m = message_with number cuid mid withdraws in
+        let got = received_so m e c _ (withdrawing_read number mid cuid named small are) in
+        let is = one_request c.exchange c.asked m (request.DeleteMitigation (record { cdid = None; cuid = cuid; mid = Some mid })) got in (
+          same_Some e.domain domain (sym (domain_is (role.Client domain) peer c.asked _ domain e.domain whose is.1 c.domain_is)),
+          of_withdrawal plan is_plan (later old at).time peer _ e c m number mid cuid (omega arith) refl is.0 (record { cdid = None; cuid = cuid; mid = Some mid }) refl refl is.1,
+        ))
 
   module _ (old : State) (peer next number mid : ℕ) (domain cuid : List ℕ) (at : ℕ) (owed : List (State × OwnedOut)) (new : State) (whose : role_of plan.settings peer ≡ role.Gateway)
       (named_domain_is : IsTrue (is_client_name domain)) (named : IsTrue (is_client_name cuid)) (small : mid < 2 ^ 32) where
@@ -234,23 +211,21 @@ module _ (plan : Plan) (is_plan : IsPlan plan) where
     passed_adds (mitigates asked lifetime) can are st =
         adds_by old.history new.history (later old at).time peer _ (Passed (mitigates asked lifetime)) (step_adds plan.settings old peer _ at owed new st)
         (λ e c.
-          let m = forwarded next domain (passage_for cuid mid) (message_with number cuid mid (mitigates asked lifetime)) in
-          let got = passed_so m e c _ (asking_forwarded next number mid domain cuid asked lifetime named_domain_is named small can.0 can.1 can.2 are) in
-          let is = request_is c.exchange c.asked m (has_target asked) (request.PutMitigation (record { cdid = Some domain; cuid = cuid; mid = Some mid }) (record { asked = asked; lifetime = lifetime })) (missing 6) got in
-          (
-            domain_is role.Gateway peer c.asked _ 0 e.domain whose is.1 c.domain_is,
-            of_put plan is_plan (later old at).time peer _ e c m next mid cuid (omega arith) refl is.0 (record { cdid = Some domain; cuid = cuid; mid = Some mid }) (record { asked = asked; lifetime = lifetime }) refl refl small can.1 is.1,
-          ))
+        let m = forwarded next domain (passage_for cuid mid) (message_with number cuid mid (mitigates asked lifetime)) in
+        let got = passed_so m e c _ (asking_forwarded next number mid domain cuid asked lifetime named_domain_is named small can.0 can.1 can.2 are) in
+        let is = request_is c.exchange c.asked m (has_target asked) (request.PutMitigation (record { cdid = Some domain; cuid = cuid; mid = Some mid }) (record { asked = asked; lifetime = lifetime })) (missing 6) got in (
+          domain_is role.Gateway peer c.asked _ 0 e.domain whose is.1 c.domain_is,
+          of_put plan is_plan (later old at).time peer _ e c m next mid cuid (omega arith) refl is.0 (record { cdid = Some domain; cuid = cuid; mid = Some mid }) (record { asked = asked; lifetime = lifetime }) refl refl is.1,
+        ))
     passed_adds withdraws can are st =
         adds_by old.history new.history (later old at).time peer _ (Passed withdraws) (step_adds plan.settings old peer _ at owed new st)
         (λ e c.
-          let m = forwarded next domain (passage_for cuid mid) (message_with number cuid mid withdraws) in
-          let got = passed_so m e c _ (withdrawing_forwarded next number mid domain cuid named_domain_is named small are) in
-          let is = one_request c.exchange c.asked m (request.DeleteMitigation (record { cdid = Some domain; cuid = cuid; mid = Some mid })) got in
-          (
-            domain_is role.Gateway peer c.asked _ 0 e.domain whose is.1 c.domain_is,
-            of_withdrawal plan is_plan (later old at).time peer _ e c m next mid cuid (omega arith) refl is.0 (record { cdid = Some domain; cuid = cuid; mid = Some mid }) refl refl is.1,
-          ))
+        let m = forwarded next domain (passage_for cuid mid) (message_with number cuid mid withdraws) in
+        let got = passed_so m e c _ (withdrawing_forwarded next number mid domain cuid named_domain_is named small are) in
+        let is = one_request c.exchange c.asked m (request.DeleteMitigation (record { cdid = Some domain; cuid = cuid; mid = Some mid })) got in (
+          domain_is role.Gateway peer c.asked _ 0 e.domain whose is.1 c.domain_is,
+          of_withdrawal plan is_plan (later old at).time peer _ e c m next mid cuid (omega arith) refl is.0 (record { cdid = Some domain; cuid = cuid; mid = Some mid }) refl refl is.1,
+        ))
 
   grants_kept : (old : State) (came : Event) (at : ℕ) (owed : List (State × OwnedOut)) (new : State) (to : ℕ) (bytes token : List ℕ) (mid : ℕ) (lifetime : ℤ)
       → Step plan.settings old came at owed new → Contains (outs_of owed) (owned.To to bytes) → IsGrant bytes token mid lifetime → Answered new.history to bytes

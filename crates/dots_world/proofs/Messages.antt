@@ -3,23 +3,22 @@ use Rattle.std.specs.Prelude.{IsTrue, nat_le}
 use Rattle.std.specs.List.{list_all}
 use Rattle.std.specs.Char.{is_ascii_graphic}
 use Rattle.std.specs.Int.{w64, to_be_bytes}
-use Rattle.std.proofs.Common.{◌≡◌, inl, inr, ℕ, ℤ, ◌+◌, ◌<◌, ◌≤◌, ◌^◌, ◌/◌, ◌%◌, ◌&&◌, ◌==◌, not, Bool, true, false, List, [], ◌∷◌, ◌++◌, length, codes, decimal, Contains, refl, sym, ap, ◌∙◌, subst, arith}
+use Rattle.std.proofs.Common.{◌≡◌, inl, inr, ℕ, ℤ, ◌<◌, ◌≤◌, ◌^◌, ◌%◌, ◌&&◌, Bool, true, false, List, [], ◌++◌, length, codes, decimal, Contains, refl, sym, ap, ◌∙◌, subst, arith}
 use Rattle.std.proofs.lemmas.Bool.{and_parts, leb-true}
 use Rattle.std.proofs.lemmas.Fmt.{length-decimal-le}
 use Rattle.std.proofs.lemmas.List.{length-append}
 use Rattle.acl_lists.specs.declared.asked.Asked.{Asked}
-use Rattle.coap_message.specs.declared.kind.Kind.{Kind}
-use Rattle.coap_message.specs.declared.kind.Kind.TheVariants.{Con, Non, Ack, Rst}
+use Rattle.coap_message.specs.declared.kind.Kind.TheVariants.{Non}
 use Rattle.coap_message.specs.Message.{CoapMessage, IsMessage, spelling}
 use Rattle.coap_message.proofs.Whole.{one_message}
+use Rattle.coap_replies.specs.Exchanges.{is_request}
 use Rattle.dots_lists.specs.Name.{is_name}
 use Rattle.dots_heads.specs.Operations.{is_client_name}
 use Rattle.agent_messages.specs.Requests.{asking, withdrawing}
 use Rattle.dots_client.specs.declared.heard.Heard.{Heard}
 use Rattle.dots_client.specs.declared.heard.Heard.TheVariants as heard
 use Rattle.dots_client.specs.Client.{ClientValue}
-use Rattle.dots_client.specs.Hearing.{Hears, is_spent_hop, beat_code, beat_answer}
-use Rattle.dots_gateway.specs.Wanted.{is_request}
+use Rattle.dots_client.specs.Receiving.{Receives, is_spent_hop, beat_code, beat_answer}
 use Rattle.dots_heads.specs.Options.{value_of}
 use Rattle.dots_world.specs.Worlds.{Aim, mitigates, withdraws, message_with, answers_to}
 use Rattle.dots_world.proofs.Lists.{not_in_none, contains_cases}
@@ -150,15 +149,17 @@ beat_says m is = record {
     small : (b : Bool) → beat_code b < 256
     small true = omega arith
     small false = omega arith
+
     some : (b : Bool) → beat_code b ≡ 0 → ⊥
     some true none = cc none
     some false none = cc none
+
     quiet : (b : Bool) → is_request (record { kind = Non; code = beat_code b; identifier = m.identifier; token = m.token; options = []; payload = [] }) ≡ false
     quiet true = refl
     quiet false = refl
 
 -- what a client answers asks nothing
-pub answers_nothing : (k : ClientValue) (bytes : List ℕ) (now : ℕ) (said : Heard) (new : ClientValue) → Hears k bytes now said new
+pub answers_nothing : (k : ClientValue) (bytes : List ℕ) (now : ℕ) (said : Heard) (new : ClientValue) → Receives k bytes now said new
     → (message : List ℕ) → Contains (answers_to said) message → IsAnswer message
 answers_nothing k bytes now (heard.Beat answer) new h message there =
     elim (contains_cases answer [] message there) [

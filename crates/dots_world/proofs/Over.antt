@@ -2,7 +2,7 @@
 use Rattle.std.specs.Prelude.{IsTrue}
 use Rattle.std.specs.Bool.{MatchBool}
 use Rattle.std.specs.List.{list_any, range_with_len}
-use Rattle.std.proofs.Common.{◌≡◌, ◌⊎◌, inl, inr, ℕ, ℤ, zero, suc, ◌+◌, ◌<◌, ◌≤◌, ◌^◌, ◌%◌, ◌==◌, ◌||◌, max, mod-eq_of_lt, Bool, true, false, cond, List, [], ◌∷◌, ◌++◌, length, map, slice_get, Contains, Option, Some, None, option_map, refl, sym, ap, ◌∙◌, subst, arith}
+use Rattle.std.proofs.Common.{◌≡◌, ◌⊎◌, inl, inr, ℕ, suc, ◌+◌, ◌<◌, ◌≤◌, ◌^◌, ◌%◌, ◌==◌, ◌||◌, max, mod-eq_of_lt, Bool, true, false, cond, List, [], ◌∷◌, ◌++◌, length, map, slice_get, Contains, Option, Some, None, option_map, refl, sym, ap, ◌∙◌, subst, arith}
 use Rattle.std.proofs.lemmas.Bool.{eqb-true, eq-eqb}
 use Rattle.std.proofs.lemmas.Option.{same_Some, none-some, slice_get-map}
 use Rattle.std.proofs.lemmas.List.Elements.{Contains-append_left, Contains-push}
@@ -14,20 +14,19 @@ use Rattle.dots_history.specs.declared.entry.Entry.{Entry}
 use Rattle.dots_client.specs.declared.ask.Ask.{Ask}
 use Rattle.dots_client.specs.declared.ask.Ask.TheVariants as ask
 use Rattle.dots_client.specs.declared.granted.Granted.{Granted}
-use Rattle.dots_client.specs.Client.{ClientValue, WaitingValue, IsKnown, has_mid, mid_for, mid_after, scope_in, scope_for, bytes_for, new_waiting, asked_at}
+use Rattle.dots_client.specs.Client.{ClientValue, IsKnown, has_mid, mid_for, mid_after, scope_for, bytes_for, new_waiting, asked_at}
 use Rattle.dots_gateway.specs.declared.exchange.Exchange.{Exchange}
-use Rattle.dots_gateway.specs.Gateway.{GatewayValue}
-use Rattle.dots_gateway.specs.Routes.{routes_of, domain_for}
-use Rattle.gateway_agent.specs.Passing.{GatewayState, GoesUp, GoesDown, Passes, state_at, restarted}
+use Rattle.dots_gateway.specs.Routes.{routes_of}
+use Rattle.gateway_agent.specs.Passing.{GatewayState, GoesUp, GoesDown, Passes, state_at}
 use Rattle.dots_machine.specs.Answering.{AreBytes}
 use Rattle.dots_world.specs.Plans.{Party, a_client, the_gateway, the_server, PlanClient, Plan, IsPlan, upstream_of, to_gateway}
-use Rattle.dots_world.specs.Worlds.{Aim, MadeAsk, message_with, message_by, aim_for, made_by, MayAsk, Packet, World, new_client, begun, WorldEvent, asks, ticks, restarts, gateway_restarts, delivers, packet_by, Serves, passed, PassesOn, changed, IsClient, asked_now, AsksFor, made, unmade, answers_to, HearsPacket, HandsOut, AllHandOut, Comes, Delivers, Begins, Happens, Runs}
+use Rattle.dots_world.specs.Worlds.{MadeAsk, message_with, aim_for, made_by, MayAsk, Packet, World, new_client, begun, WorldEvent, asks, ticks, restarts, gateway_restarts, delivers, packet_by, passed, PassesOn, changed, IsClient, AsksFor, made, unmade, answers_to, ReceivesPacket, HandsOut, AllHandOut, Comes, Delivers, Begins, Happens, Runs}
 use Rattle.dots_world.specs.Granted.{IsGrantedTo, WasAsked}
 use Rattle.dots_world.proofs.Lists.{not_in_none, contains_first, contains_more, by_last, by_parts, mapped, got_in}
-use Rattle.dots_world.proofs.Clients.{drained, AreHeard, hears}
+use Rattle.dots_world.proofs.Clients.{drained, receives}
 use Rattle.dots_world.proofs.Messages.{IsAnswer, answers_nothing}
-use Rattle.dots_world.proofs.Kept.{Within, scope_of, IsGood, AsksInv, IsFrom, IsWaiting, IsRow, ClientInv, ClientsInv, GatewayInv, IsMade, IsClientRequest, Answered, GrantsBy, Says, SaysOf, PacketsInv, waiting_more, row_more, made_more, packets_more, entries_more, raised_asks, raised_clients, raised_gateway, client_set, less_client}
-use Rattle.dots_world.proofs.Heard.{asked_of_gateway, gateway_at, row_granted}
+use Rattle.dots_world.proofs.Kept.{Within, scope_of, IsGood, AsksInv, IsWaiting, ClientInv, IsClientRequest, Answered, GrantsBy, Says, SaysOf, waiting_more, row_more, made_more, packets_more, entries_more, raised_asks, raised_clients, raised_gateway, client_set, less_client}
+use Rattle.dots_world.proofs.Received.{asked_of_gateway, gateway_at, row_granted}
 use Rattle.dots_world.proofs.Serving.{IsServing, Inv, delivered_keeps, quiet_keeps}
 use Rattle.dots_world.proofs.Passing.{Left, aged, begun_anew, up_left, down_says, not_upstream, all_none}
 
@@ -108,9 +107,9 @@ module _ {S : Type 0} (plan : Plan) (is_plan : IsPlan plan) (history : S → Lis
       (client_changed n old i h.c h.after h.messages inv h.is.planned
       (less_client plan n old.asks (history old.server) i h.c h.client h.after k_inv d.0.cuid d.0.number d.0.mid d.0.waiting (λ row there. k_inv.rows row (d.0.rows row there)))
       (λ bytes there.
-        let v = d.1 bytes there in
-        let waits = k_inv.waiting v.0 v.1 in
-        inl (record { ask = waits.ask; there = waits.there; who = waits.who; spelled = v.2 ∙ waits.bytes })))
+      let v = d.1 bytes there in
+      let waits = k_inv.waiting v.0 v.1 in
+      inl (record { ask = waits.ask; there = waits.there; who = waits.who; spelled = v.2 ∙ waits.bytes })))
 
   all_hand : (n : ℕ) (places : List ℕ) (old new : World S) → Inv plan history n old → AllHandOut plan places old new → Inv plan history n new
   all_hand n [] old new inv h = subst (Inv plan history n) (sym h) inv
@@ -123,19 +122,19 @@ module _ {S : Type 0} (plan : Plan) (is_plan : IsPlan plan) (history : S → Lis
       let next = inv.gateway.next in
       omega (arith, le, below, next, few)
 
-  hears_one : (n : ℕ) → n < 2 ^ 62 → (old : World S) (p : Packet) (i : ℕ) (new : World S) → Inv plan history n old → Contains old.packets p → p.target ≡ Some (a_client i) → HearsPacket plan old i p.bytes new → Inv plan history n new
-  hears_one n few old p i new inv there target h =
+  receives_one : (n : ℕ) → n < 2 ^ 62 → (old : World S) (p : Packet) (i : ℕ) (new : World S) → Inv plan history n old → Contains old.packets p → p.target ≡ Some (a_client i) → ReceivesPacket plan old i p.bytes new → Inv plan history n new
+  receives_one n few old p i new inv there target h =
       let k_inv = inv.clients i h.c h.client h.is.planned h.is.there in
-      let heard = hears h.client p.bytes old.time h.said h.after h.hears in
+      let received = receives h.client p.bytes old.time h.said h.after h.receives in
       subst (Inv plan history n) (sym h.leaves)
       (client_changed n old i h.c h.after (answers_to h.said) inv h.is.planned
-      (less_client plan n old.asks (history old.server) i h.c h.client h.after k_inv heard.cuid heard.number heard.mid heard.waiting
-      (λ row row_there. elim (heard.rows row row_there) [
+      (less_client plan n old.asks (history old.server) i h.c h.client h.after k_inv received.cuid received.number received.mid received.waiting
+      (λ row row_there. elim (received.rows row row_there) [
         | inl before ↦ k_inv.rows row before
         | inr g ↦ row_granted plan n few is_plan old.asks old.gateway.kept (history old.server) inv.asks inv.entries inv.gateway.one (made_small n few old inv) i h.c h.client h.is.planned k_inv p.bytes row g
-          p.source p.target target (inv.packets p there)
+            p.source p.target target (inv.packets p there)
       ]))
-      (λ bytes bytes_there. inr (answers_nothing h.client p.bytes old.time h.said h.after h.hears bytes bytes_there)))
+      (λ bytes bytes_there. inr (answers_nothing h.client p.bytes old.time h.said h.after h.receives bytes bytes_there)))
 
   -- ---- an ask
 
@@ -143,8 +142,10 @@ module _ {S : Type 0} (plan : Plan) (is_plan : IsPlan plan) (history : S → Lis
       (k_inv : ClientInv plan n old.asks (history old.server) i c k) (may : MayAsk k what) (word : ℕ) where
     abbrev a : MadeAsk
     a = made_by i k what
+
     abbrev asks2 : List MadeAsk
     asks2 = old.asks ++ made_by i k what ∷ []
+
     abbrev k2 : ClientValue
     k2 = asked_at k what old.time word
 
@@ -169,6 +170,7 @@ module _ {S : Type 0} (plan : Plan) (is_plan : IsPlan plan) (history : S → Lis
       where
         unused : (b : MadeAsk) → Contains old.asks b → b.who ≡ i → b.number ≡ k.number → ⊥
         unused b there who number = let past = k_inv.past b there who in omega (arith, past, number)
+
         one_of : (b : MadeAsk) → Contains asks2 b → (d : MadeAsk) → Contains asks2 d → b.who ≡ d.who → b.number ≡ d.number → b ≡ d
         one_of =
             by_last (λ b. (d : MadeAsk) → Contains asks2 d → b.who ≡ d.who → b.number ≡ d.number → b ≡ d) old.asks a
@@ -216,7 +218,7 @@ module _ {S : Type 0} (plan : Plan) (is_plan : IsPlan plan) (history : S → Lis
             last = gateway_inv.last;
             one = gateway_inv.one;
             made = λ x there. made_more plan old.asks asks2 old.gateway.kept old.gateway.kept (history old.server) (history old.server) more (λ y y_there. y_there) (λ e e_there. e_there) x (gateway_inv.made x there);
-            held = gateway_inv.held;
+            waits = gateway_inv.waits;
           };
           packets = by_parts (SaysOf plan asks2 old.gateway.kept (history old.server)) old.packets []
               (packets_more plan old.asks asks2 old.gateway.kept old.gateway.kept (history old.server) (history old.server) more (λ x x_there. x_there) (λ e e_there. e_there) old.packets inv.packets)
@@ -249,20 +251,20 @@ module _ {S : Type 0} (plan : Plan) (is_plan : IsPlan plan) (history : S → Lis
   match_false true P Q is m = absurd (cc is)
   match_false false P Q is m = m
 
-  gateway_hears : (n : ℕ) → n < 2 ^ 62 → (w : World S) (source : Party) (target : Option Party) (bytes : List ℕ) (peer : ℕ) (outs : List OwnedOut) (next : GatewayState) → Inv plan history n w → target ≡ Some the_gateway
+  gateway_receives : (n : ℕ) → n < 2 ^ 62 → (w : World S) (source : Party) (target : Option Party) (bytes : List ℕ) (peer : ℕ) (outs : List OwnedOut) (next : GatewayState) → Inv plan history n w → target ≡ Some the_gateway
       → to_gateway plan source ≡ Some peer → Says plan w.asks w.gateway.kept (history w.server) source target bytes → Passes w.gateway (event.Datagram peer bytes) w.time outs next
       → Left plan (suc n) w.asks (history w.server) w.gateway.kept outs next.core next.kept
-  gateway_hears n few w (a_client i) target bytes peer outs next inv is peer_is (c, planned, goes, says) passes =
+  gateway_receives n few w (a_client i) target bytes peer outs next inv is peer_is (c, planned, goes, says) passes =
       let peers : c.peer ≡ peer = same_Some c.peer peer (sym (ap (option_map (λ (c : PlanClient). c.peer)) planned) ∙ peer_is) in
       let behind = asked_of_gateway c.behind (sym is ∙ goes) in
       let name = (is_plan.clients i c planned).behind behind in
       let other : (peer == w.gateway.core.upstream) ≡ false =
-          ap (λ p. p == w.gateway.core.upstream) (sym peers) ∙ ap (λ u. c.peer == u) inv.gateway.upstream ∙ not_upstream (routes_of plan.gateway_settings) (upstream_of plan) c.peer name.0 name.1 in
+      ap (λ p. p == w.gateway.core.upstream) (sym peers) ∙ ap (λ u. c.peer == u) inv.gateway.upstream ∙ not_upstream (routes_of plan.gateway_settings) (upstream_of plan) c.peer name.0 name.1 in
       let up : GoesUp (state_at w.gateway w.time) c.peer bytes outs next =
-          subst (λ p. GoesUp (state_at w.gateway w.time) p bytes outs next) (sym peers) (match_false (peer == w.gateway.core.upstream) _ _ other passes) in
+      subst (λ p. GoesUp (state_at w.gateway w.time) p bytes outs next) (sym peers) (match_false (peer == w.gateway.core.upstream) _ _ other passes) in
       up_left plan is_plan n few w.asks (history w.server) inv.asks _ w.gateway.kept (aged plan n w.asks w.gateway.core w.gateway.kept w.time inv.gateway) i c planned behind bytes says
       up.said outs next.core next.kept up.ups up.sends up.kept
-  gateway_hears n few w the_server target bytes peer outs next inv is peer_is (to, goes, grants) passes =
+  gateway_receives n few w the_server target bytes peer outs next inv is peer_is (to, goes, grants) passes =
       let peers : upstream_of plan ≡ peer = same_Some (upstream_of plan) peer peer_is in
       let own : (peer == w.gateway.core.upstream) ≡ true = eq-eqb peer w.gateway.core.upstream (sym peers ∙ sym inv.gateway.upstream) in
       let down : GoesDown (state_at w.gateway w.time) bytes outs next = match_true (peer == w.gateway.core.upstream) _ _ own passes in
@@ -275,7 +277,7 @@ module _ {S : Type 0} (plan : Plan) (is_plan : IsPlan plan) (history : S → Lis
         says = down_says plan is_plan n few w.asks (history w.server) inv.asks _ w.gateway.kept old_inv bytes
             (subst (λ t. GrantsBy (λ token mid lifetime. Answered (history w.server) t bytes) bytes) to_is grants) down.said down.downs outs down.sends;
       })
-  gateway_hears n few w the_gateway target bytes peer outs next inv is peer_is says passes = absurd (none-some peer peer_is)
+  gateway_receives n few w the_gateway target bytes peer outs next inv is peer_is says passes = absurd (none-some peer peer_is)
 
   gateway_restarted : (n : ℕ) (w new : World S) → Inv plan history n w → PassesOn plan w event.Restart new → Inv plan history (suc n) new
   gateway_restarted n w new inv (outs, next, (none, same), leaves) =
@@ -296,8 +298,8 @@ module _ {S : Type 0} (plan : Plan) (is_plan : IsPlan plan) (history : S → Lis
   comes n few old p (Some the_server) new inv there is are (peer, peer_is, (owed, server, st, leaves)) =
       subst (Inv plan history (suc n)) (sym leaves) (raised n _ (delivered_keeps plan is_plan history step laws n old p peer owed server inv there is peer_is are st))
   comes n few old p (Some the_gateway) new inv there is are (peer, peer_is, (outs, next, passes, leaves)) =
-      subst (Inv plan history (suc n)) (sym leaves) (left_keeps n old outs next inv (gateway_hears n few old p.source p.target p.bytes peer outs next inv is peer_is (inv.packets p there) passes))
-  comes n few old p (Some (a_client i)) new inv there is are c = raised n new (hears_one n few old p i new inv there is c)
+      subst (Inv plan history (suc n)) (sym leaves) (left_keeps n old outs next inv (gateway_receives n few old p.source p.target p.bytes peer outs next inv is peer_is (inv.packets p there) passes))
+  comes n few old p (Some (a_client i)) new inv there is are c = raised n new (receives_one n few old p i new inv there is c)
 
   delivers_keep : (n : ℕ) → n < 2 ^ 62 → (old : World S) (k : ℕ) (o : Option Packet) (new : World S) → Inv plan history n old → slice_get old.packets k ≡ o → Delivers step plan old o new → Inv plan history (suc n) new
   delivers_keep n few old k None new inv at d = subst (Inv plan history (suc n)) (sym d) (raised n old inv)
@@ -338,7 +340,7 @@ module _ {S : Type 0} (plan : Plan) (is_plan : IsPlan plan) (history : S → Lis
       last = λ x there. absurd (not_in_none x there);
       one = λ x y there. absurd (not_in_none x there);
       made = λ x there. absurd (not_in_none x there);
-      held = λ k there. absurd (not_in_none k there);
+      waits = λ k there. absurd (not_in_none k there);
     };
     packets = λ p there. absurd (not_in_none p there);
     entries = λ e there. absurd (not_in_none e (subst (λ es. Contains es e) none there));
@@ -346,6 +348,7 @@ module _ {S : Type 0} (plan : Plan) (is_plan : IsPlan plan) (history : S → Lis
     where
       first_client : (i : ℕ) (c : PlanClient) (k : ClientValue) → slice_get plan.clients i ≡ Some c → slice_get (map new_client plan.clients) i ≡ Some k → new_client c ≡ k
       first_client i c k planned there = same_Some (new_client c) k (sym (ap (option_map new_client) planned) ∙ sym (slice_get-map new_client plan.clients i) ∙ there)
+
       new_inv : (i : ℕ) (c : PlanClient) → ClientInv plan 0 [] (history server) i c (new_client c)
       new_inv i c = record {
         cuid = refl;

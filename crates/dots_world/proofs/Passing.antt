@@ -1,8 +1,7 @@
 -- The gateway's part: what it passes on is an ask of its client, and what it returns grants what the server granted it.
-use Rattle.std.specs.Prelude.{IsTrue, bytes_eq, ⊤}
-use Rattle.std.specs.Bool.{MatchBool}
+use Rattle.std.specs.Prelude.{IsTrue, bytes_eq}
 use Rattle.std.specs.Int.{w64, to_be_bytes}
-use Rattle.std.proofs.Common.{◌≡◌, ◌⊎◌, inl, inr, ℕ, ℤ, zero, suc, ◌+◌, ◌<◌, ◌≤◌, ◌^◌, ◌==◌, ◌&&◌, Bool, true, false, cond, List, [], ◌∷◌, ◌++◌, append-nil, length, map, filter, flat_map, slice_get, position, find, Contains, Option, Some, None, Result, Ok, Err, option_map, refl, sym, ap, ◌∙◌, subst, subst₂, arith}
+use Rattle.std.proofs.Common.{◌≡◌, ◌⊎◌, inl, inr, ℕ, suc, ◌<◌, ◌≤◌, ◌^◌, ◌==◌, Bool, true, false, cond, List, [], ◌∷◌, ◌++◌, append-nil, length, filter, flat_map, slice_get, position, find, Contains, Option, Some, None, Result, Ok, Err, option_map, refl, sym, ap, ◌∙◌, subst, subst₂, arith}
 use Rattle.std.proofs.lemmas.Bool.{and_parts, eqb-true, eq-eqb}
 use Rattle.std.proofs.lemmas.Option.{same_Some, none-some}
 use Rattle.std.proofs.lemmas.List.Elements.{Contains-append_left, Contains-push}
@@ -11,40 +10,37 @@ use Rattle.coap_message.specs.declared.kind.Kind.{Kind}
 use Rattle.coap_message.specs.declared.kind.Kind.TheVariants.{Con, Non, Ack, Rst}
 use Rattle.coap_message.specs.Message.{CoapMessage, IsMessage, spelling}
 use Rattle.coap_message.proofs.Whole.{one_message}
-use Rattle.dots_host.specs.declared.event.Event.TheVariants as event
+use Rattle.coap_replies.specs.Exchanges.{exchange_in, reply_kind}
+use Rattle.coap_replies.specs.Replies.{plain}
 use Rattle.dots_host.specs.declared.out.OwnedOut.{OwnedOut}
 use Rattle.dots_host.specs.declared.out.OwnedOut.TheVariants as owned
 use Rattle.dots_heads.specs.Operations.{is_client_name}
 use Rattle.dots_history.specs.declared.entry.Entry.{Entry}
-use Rattle.dots_history.specs.declared.entry.MessageKey.{MessageKey}
-use Rattle.dots_history.specs.declared.entry.MessageKey.TheVariants as key
 use Rattle.dots_gateway.specs.declared.exchange.Exchange.{Exchange}
 use Rattle.dots_gateway.specs.declared.exchange.Waiting.{Waiting}
 use Rattle.dots_gateway.specs.declared.passed.Passed.{Passed}
 use Rattle.dots_gateway.specs.declared.passed.Passed.TheVariants as passed
 use Rattle.dots_gateway.specs.declared.passed.GatewayFault.TheVariants as fault
 use Rattle.dots_gateway.specs.declared.routes.Route.{Route}
-use Rattle.dots_gateway.specs.Exchanges.{ExchangesValue, exchange_for, with_one, id_of, key_for, is_from, at_time, waiting_again}
-use Rattle.dots_gateway.specs.Forwarding.{forwarded, answered}
-use Rattle.dots_gateway.specs.Gateway.{GatewayValue, Said, Ups, Downs, gateway_at, UpOrLacks, DownOrLacks, came_again, same_message}
-use Rattle.dots_gateway.specs.Replies.{reply_kind, plain}
+use Rattle.dots_gateway.specs.Exchanges.{with_one, id_of, key_for, waiting_again}
+use Rattle.dots_gateway.specs.Forwarding.{forwarded}
+use Rattle.dots_gateway.specs.Gateway.{GatewayValue, Said, gateway_at, UpOrLacks, DownOrLacks, came_again, same_message}
 use Rattle.dots_gateway.specs.Routes.{routes_of, domain_for}
-use Rattle.dots_gateway.specs.Wanted.{Passage, Wanted, passage, wanted_of, is_request}
+use Rattle.dots_gateway.specs.Wanted.{Passage, Wanted, passage, wanted_of}
 use Rattle.gateway_store.specs.Exchanges.{number_or, last_number, is_young}
-use Rattle.gateway_agent.specs.Passing.{GatewayState, Refuses, answered as says_so, silent as says_nothing, GoesUp, GoesDown, Passes, UpSends, sends_of, fresh_in, restarted, time_from, state_at, full_text}
+use Rattle.gateway_agent.specs.Passing.{GatewayState, Refuses, answered as says_so, silent as says_nothing, UpSends, sends_of, fresh_in, restarted, time_from, full_text}
 use Rattle.machine_laws.specs.Forwarding.{passage_for}
 use Rattle.machine_laws.specs.Granting.{IsGrant}
 use Rattle.machine_laws.proofs.Telling.{IsQuiet, quiet, grant_says, may_grant}
 use Rattle.dots_heads.specs.declared.reject.Reject.{Reject}
 use Rattle.machine_laws.proofs.Forwarding.{asking_passes, withdrawing_passes}
-use Rattle.dots_world.specs.Plans.{Party, a_client, the_gateway, the_server, PlanClient, Plan, IsPlan, upstream_of, asks_at, is_behind, from_server, from_gateway, to_gateway}
+use Rattle.dots_world.specs.Plans.{a_client, the_gateway, the_server, PlanClient, Plan, IsPlan, upstream_of, is_behind, from_gateway}
 use Rattle.dots_world.specs.Worlds.{Aim, mitigates, withdraws, MadeAsk, message_with, message_by, Packet, packet_passed}
 use Rattle.dots_world.specs.Granted.{IsExchangeOf}
-use Rattle.dots_world.proofs.Lists.{not_in_none, contains_cases, by_last, filtered, mapped, one_number}
+use Rattle.dots_world.proofs.Lists.{not_in_none, contains_cases, by_last, filtered, mapped}
 use Rattle.dots_world.proofs.Messages.{written, written_token, IsAnswer, answers_no_request}
-use Rattle.dots_world.proofs.Gateways.{IsPassed, IsFresh, IsAgain, UpFine, ups_fine, IsBeaten, IsReturned, DownFine, downs_fine, IsKeyed, grant_returned}
-use Rattle.dots_world.proofs.Kept.{Within, IsGood, AsksInv, IsMade, IsHeld, GatewayInv, raised_gateway, IsClientRequest, Answered, GrantsBy, SaysServer, IsForwarded, IsPassedGrant, SaysUp, SaysDown, Says, SaysOf}
-use Rattle.dots_world.proofs.Heard.{gateway_at as the_gateway_is}
+use Rattle.dots_world.proofs.Gateways.{IsPassed, IsFresh, IsAgain, UpFine, ups_fine, IsBeaten, IsReturned, downs_fine, IsKeyed, grant_returned}
+use Rattle.dots_world.proofs.Kept.{Within, AsksInv, IsMade, IsOfKept, GatewayInv, raised_gateway, IsClientRequest, Answered, GrantsBy, IsForwarded, SaysOf}
 
 -- ---- small facts
 
@@ -92,7 +88,7 @@ aged plan n asks core kept at inv = record {
   last = inv.last;
   one = inv.one;
   made = inv.made;
-  held = λ k there. inv.held k (filtered _ core.exchanges.waiting k there);
+  waits = λ k there. inv.waits k (filtered _ core.exchanges.waiting k there);
 }
 
 pub begun_anew : (plan : Plan) (n : ℕ) (asks : List MadeAsk) (old : GatewayState) (at : ℕ) → GatewayInv plan n asks old.core old.kept → GatewayInv plan n asks (restarted old at).core (restarted old at).kept
@@ -107,11 +103,11 @@ begun_anew plan n asks old at inv =
       last = inv.last;
       one = inv.one;
       made = inv.made;
-      held = λ k there. again k (mapped waiting_again _ k there);
+      waits = λ k there. again k (mapped waiting_again _ k there);
     }
   where
-    again : (k : Waiting) → (x : Exchange) × Contains (filter (is_young (time_from old.kept at)) old.kept) x × (waiting_again x ≡ k) → IsHeld old.kept k
-    again k (x, there, is) = subst (IsHeld old.kept) is (record { there = filtered (is_young (time_from old.kept at)) old.kept x there; asked = λ d some. absurd (none-some d some) })
+    again : (k : Waiting) → (x : Exchange) × Contains (filter (is_young (time_from old.kept at)) old.kept) x × (waiting_again x ≡ k) → IsOfKept old.kept k
+    again k (x, there, is) = subst (IsOfKept old.kept) is (record { there = filtered (is_young (time_from old.kept at)) old.kept x there; asked = λ d some. absurd (none-some d some) })
 
 -- ---- what an event of the gateway leaves
 
@@ -191,7 +187,7 @@ module _ (plan : Plan) (is_plan : IsPlan plan) (n : ℕ) (few : n < 2 ^ 62) (ask
         let valid = is_plan.clients i c planned in
         let good = asked_inv.good f.ask f.there in
         let taken : p.taken ≡ passage_for c.cuid f.ask.mid =
-            one_passage p.taken (passage_for c.cuid f.ask.mid) (sym p.wanted ∙ ap wanted_of f.same ∙ client_passes f.ask.number f.ask.mid c.cuid f.ask.aim valid.named good.mid) in
+        one_passage p.taken (passage_for c.cuid f.ask.mid) (sym p.wanted ∙ ap wanted_of f.same ∙ client_passes f.ask.number f.ask.mid c.cuid f.ask.aim valid.named good.mid) in
         record {
           x = x;
           made = there;
@@ -227,8 +223,8 @@ module _ (plan : Plan) (is_plan : IsPlan plan) (n : ℕ) (few : n < 2 ^ 62) (ask
             last = by_last (λ y. y.number ≤ last_number (kept ++ x ∷ [])) kept x (λ y there. let low = lower y there in omega (arith, low, last)) (omega (arith, last));
             one = λ y z y_there z_there. one_of lower y y_there z z_there;
             made = by_last (IsMade plan asks) kept x inv.made (record { ask = asked_for.ask; there = asked_for.there; of = exchange_of f.message asked_for x peer token; id = id });
-            held = by_last (IsHeld (kept ++ x ∷ [])) core.exchanges.waiting _
-                (λ k there. let h = inv.held k there in record { there = Contains-append_left kept (x ∷ []) k.exchange h.there; asked = h.asked })
+            waits = by_last (IsOfKept (kept ++ x ∷ [])) core.exchanges.waiting _
+                (λ k there. let h = inv.waits k there in record { there = Contains-append_left kept (x ∷ []) k.exchange h.there; asked = h.asked })
                 (record { there = Contains-push kept x; asked = λ d is. (f.message, p.is_message, sym (same_Some bytes d is) ∙ p.spelled, sym token) });
           };
           more = λ y there. Contains-append_left kept (x ∷ []) y there;
@@ -243,7 +239,7 @@ module _ (plan : Plan) (is_plan : IsPlan plan) (n : ℕ) (few : n < 2 ^ 62) (ask
             (by_last (λ z. x.number ≡ z.number → x ≡ z) kept x (λ z z_there same. let low = lower z z_there in absurd (omega (arith, low, same))) (λ same. refl))
 
     -- an exchange whose request came again has its token
-    came_token : (k : Waiting) (message : CoapMessage) → IsMessage message → bytes ≡ spelling message → IsHeld kept k → came_again k.asked k.exchange bytes message ≡ true → k.exchange.token ≡ message.token
+    came_token : (k : Waiting) (message : CoapMessage) → IsMessage message → bytes ≡ spelling message → IsOfKept kept k → came_again k.asked k.exchange bytes message ≡ true → k.exchange.token ≡ message.token
     came_token k message is spelled h came = by k.asked refl came
       where
         by : (o : Option (List ℕ)) → k.asked ≡ o → came_again o k.exchange bytes message ≡ true → k.exchange.token ≡ message.token
@@ -257,7 +253,7 @@ module _ (plan : Plan) (is_plan : IsPlan plan) (n : ℕ) (few : n < 2 ^ 62) (ask
         → (p : Packet) → Contains (flat_map (packet_passed plan) outs) p → SaysOf plan asks kept history p
     again_left sent outs a outs_are =
         let p = a.passes in
-        let h = inv.held a.k a.waits in
+        let h = inv.waits a.k a.waits in
         let asked_for = is_for sent a.k.exchange.number a.message p in
         let from = and_parts (a.k.exchange.peer == c.peer) (id_of a.k.exchange.key == a.message.identifier) a.from in
         let token = came_token a.k a.message p.is_message p.spelled h a.came in
@@ -267,8 +263,8 @@ module _ (plan : Plan) (is_plan : IsPlan plan) (n : ℕ) (few : n < 2 ^ 62) (ask
     refused_left : (code : ℕ) (text : List ℕ) (outs : List OwnedOut) → may_grant code ≡ false → Refuses c.peer bytes code text outs → (p : Packet) → Contains (flat_map (packet_passed plan) outs) p
         → SaysOf plan asks kept history p
     refused_left code text outs none (says_so m is spelled is_asking e) =
-        all_one plan (SaysOf plan asks kept history) outs c.peer (plain code m text) e
-        (quiet_reply c.peer (plain code m text) other (quiet (record { kind = reply_kind m.kind; code = code; identifier = m.identifier; token = m.token; options = []; payload = text }) none))
+        all_one plan (SaysOf plan asks kept history) outs c.peer (plain code (exchange_in m) text) e
+        (quiet_reply c.peer (plain code (exchange_in m) text) other (quiet (record { kind = reply_kind m.kind; code = code; identifier = m.identifier; token = m.token; options = []; payload = text }) none))
     refused_left code text outs none (says_nothing never e) = all_none plan (SaysOf plan asks kept history) outs e
 
     pub up_left : (said : Said) (outs : List OwnedOut) (core2 : GatewayValue) (kept2 : List Exchange) → UpOrLacks core c.peer bytes said core2 → UpSends core.upstream c.peer bytes said outs
@@ -295,23 +291,27 @@ module _ (plan : Plan) (is_plan : IsPlan plan) (n : ℕ) (few : n < 2 ^ 62) (ask
 
     returned_says : (to : ℕ) (reply : List ℕ) → IsReturned core bytes to reply → SaysOf plan asks kept history (record { source = the_gateway; target = from_gateway plan to; bytes = reply })
     returned_says to reply r =
-        let h = inv.held r.k r.waits in
+        let h = inv.waits r.k r.waits in
         let m = inv.made r.k.exchange h.there in
         let valid = (is_plan.clients m.ask.who m.of.c m.of.planned).behind m.of.behind in
         let other : (to == upstream_of plan) ≡ false = ap (λ peer. peer == upstream_of plan) (r.peer ∙ m.of.peer) ∙ not_upstream (routes_of plan.gateway_settings) (upstream_of plan) m.of.c.peer valid.0 valid.1 in
-        inr (to, ap (λ b. cond b (Some the_server) (option_map a_client (position (is_behind to) plan.clients))) other, λ token mid lifetime g.
-          let back = grant_returned r.k.exchange r.message token mid lifetime (keyed r.k.exchange m) r.is_message (subst (λ b. IsGrant b token mid lifetime) r.written g) in
-          let of_server : IsGrant bytes (to_be_bytes w64 r.k.exchange.number) mid lifetime =
+        inr (
+          to,
+          ap (λ b. cond b (Some the_server) (option_map a_client (position (is_behind to) plan.clients))) other,
+          λ token mid lifetime g.
+              let back = grant_returned r.k.exchange r.message token mid lifetime (keyed r.k.exchange m) r.is_message (subst (λ b. IsGrant b token mid lifetime) r.written g) in
+              let of_server : IsGrant bytes (to_be_bytes w64 r.k.exchange.number) mid lifetime =
               subst₂ (λ b t. IsGrant b t mid lifetime) (sym r.spelled) r.token back.0 in
-          record {
-            x = r.k.exchange;
-            made = h.there;
-            peer = r.peer;
-            of_token = back.1;
-            reply = bytes;
-            grants = of_server;
-            answered = grants (to_be_bytes w64 r.k.exchange.number) mid lifetime of_server;
-          })
+              record {
+                x = r.k.exchange;
+                made = h.there;
+                peer = r.peer;
+                of_token = back.1;
+                reply = bytes;
+                grants = of_server;
+                answered = grants (to_be_bytes w64 r.k.exchange.number) mid lifetime of_server;
+              },
+        )
 
     pub down_says : (said : Passed) → DownOrLacks core bytes said → (outs : List OwnedOut) → outs ≡ sends_of core.upstream said → (p : Packet) → Contains (flat_map (packet_passed plan) outs) p
         → SaysOf plan asks kept history p

@@ -1,9 +1,10 @@
 -- The server's part: what it adds carries an ask, and what it sends that grants something is in its history.
 use Rattle.std.specs.Prelude.{IsTrue}
-use Rattle.std.proofs.Common.{◌≡◌, ◌⊎◌, inl, inr, ℕ, ℤ, suc, ◌+◌, ◌<◌, ◌≤◌, ◌^◌, Bool, true, false, List, [], ◌∷◌, ◌++◌, flat_map, slice_get, Contains, Option, Some, None, option_map, refl, sym, ap, ◌∙◌, subst, arith}
+use Rattle.std.proofs.Common.{◌≡◌, ◌⊎◌, inl, inr, ℕ, ℤ, ◌<◌, ◌^◌, false, List, [], ◌∷◌, ◌++◌, flat_map, slice_get, Contains, Option, Some, option_map, refl, sym, ap, ◌∙◌, subst}
 use Rattle.std.proofs.lemmas.Option.{same_Some, none-some}
 use Rattle.std.proofs.lemmas.List.Elements.{Contains-append_left}
 use Rattle.coap_message.specs.Message.{CoapMessage, IsMessage, spelling}
+use Rattle.coap_replies.specs.Exchanges.{is_request}
 use Rattle.dots_host.specs.declared.event.Event.{Event}
 use Rattle.dots_host.specs.declared.event.Event.TheVariants as event
 use Rattle.dots_host.specs.declared.out.OwnedOut.{OwnedOut}
@@ -15,7 +16,6 @@ use Rattle.dots_heads.specs.Operations.{is_client_name}
 use Rattle.dots_history.specs.declared.entry.Entry.{Entry}
 use Rattle.dots_gateway.specs.declared.exchange.Exchange.{Exchange}
 use Rattle.dots_gateway.specs.Forwarding.{forwarded}
-use Rattle.dots_gateway.specs.Wanted.{is_request}
 use Rattle.dots_machine.specs.Answering.{AreBytes}
 use Rattle.machine_laws.specs.Forwarding.{passage_for}
 use Rattle.machine_laws.specs.Granting.{IsGrant}
@@ -24,8 +24,8 @@ use Rattle.dots_world.specs.Worlds.{Aim, MadeAsk, message_with, message_by, CanS
 use Rattle.dots_world.specs.Granted.{Carries, HasNumber, own, passed}
 use Rattle.dots_world.proofs.Lists.{not_in_none, contains_cases, by_last, by_parts, gathered}
 use Rattle.dots_world.proofs.Messages.{IsAnswer}
-use Rattle.dots_world.proofs.Kept.{Within, AsksInv, TellsGrant, IsFrom, EntriesInv, ClientsInv, ClientInv, GatewayInv, PacketsInv, Answered, Says, SaysOf, row_more, packets_more}
-use Rattle.dots_world.proofs.Heard.{asked_of_server, no_server_at}
+use Rattle.dots_world.proofs.Kept.{Within, AsksInv, SaysGrant, IsFrom, EntriesInv, ClientsInv, GatewayInv, PacketsInv, Answered, Says, SaysOf, row_more, packets_more}
+use Rattle.dots_world.proofs.Received.{asked_of_server, no_server_at}
 
 -- nothing was added, or one entry of which this holds
 abbrev pub AddsOne : List Entry → List Entry → (Entry → Type 0) → Type 0
@@ -37,7 +37,7 @@ pub record IsEntryOf (plan : Plan) (peer number : ℕ) (cuid : List ℕ) (mid : 
   pub of_cuid : e.cuid ≡ cuid
   pub carries : Carries plan.settings aim mid e
   pub numbered : HasNumber e.reply number
-  pub tells : TellsGrant e
+  pub says : SaysGrant e
 
 -- the laws by which a server is known here, whatever it is
 pub record IsServing {S : Type 0} (plan : Plan) (history : S → List Entry) (step : S → Event → ℕ → List (S × OwnedOut) → S → Type 0) : Type 0 where
@@ -111,7 +111,7 @@ module _ {S : Type 0} (plan : Plan) (is_plan : IsPlan plan) (history : S → Lis
             carries = is.1.carries;
           };
           under = own c (ap (slice_get plan.clients) who ∙ planned) straight (is.1.of_peer ∙ sym peer_is) is.1.numbered;
-          tells = is.1.tells;
+          says = is.1.says;
         })
         (laws.asked old peer a.number a.mid c.cuid a.aim whose.0 at owed new (ap (role_of plan.settings) (sym peer_is) ∙ whose.1) valid.named good.mid good.can
         (subst AreBytes spelled are) (subst (λ b. step old (event.Datagram peer b) at owed new) spelled st))
@@ -132,7 +132,7 @@ module _ {S : Type 0} (plan : Plan) (is_plan : IsPlan plan) (history : S → Lis
           there = f.there;
           of = record { c = f.of.c; planned = f.of.planned; domain = through f.of.behind f.domain f.named is.0; cuid = is.1.of_cuid; carries = is.1.carries };
           under = passed f.x f.made f.of (is.1.of_peer ∙ sym gateway_is) is.1.numbered;
-          tells = is.1.tells;
+          says = is.1.says;
         })
         (laws.forwards old peer f.x.number f.ask.number f.ask.mid f.domain f.of.c.cuid f.ask.aim at owed new (ap (role_of plan.settings) (sym gateway_is) ∙ is_plan.gateway)
         (is_plan.names f.of.c.peer f.domain f.named) valid.named good.mid good.can (subst AreBytes f.spelled are) (subst (λ b. step old (event.Datagram peer b) at owed new) f.spelled st))

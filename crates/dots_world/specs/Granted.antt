@@ -1,15 +1,13 @@
 -- What the world comes to: what a ledger shows was granted, and what the server has accepted was asked.
-use Rattle.std.specs.Prelude.{◌≡◌, ◌<◌, ◌^◌, ◌%◌, ◌⊎◌, ℕ, ℤ, pos, true, false, List, ◌∷◌, slice_get, Contains, Some}
+use Rattle.std.specs.Prelude.{◌≡◌, ℕ, pos, true, false, List, slice_get, Contains, Some}
 use Rattle.std.specs.Int.{w64, to_be_bytes}
 use Rattle.lifetime_clock.specs.Lifetime.{granted}
 use Rattle.coap_message.specs.Message.{CoapMessage, IsMessage, spelling}
-use Rattle.agent_messages.specs.Grants.{IsGranted}
 use Rattle.dots_settings.specs.Settings.{SettingsValue}
 use Rattle.dots_history.specs.declared.entry.Entry.{Entry}
 use Rattle.dots_history.specs.declared.put.Put.{Put}
 use Rattle.dots_history.specs.declared.change.Change.TheVariants as change
 use Rattle.dots_client.specs.declared.granted.Granted.{Granted}
-use Rattle.dots_client.specs.Answers.{GrantsMid}
 use Rattle.dots_gateway.specs.declared.exchange.Exchange.{Exchange}
 use Rattle.dots_world.specs.Plans.{PlanClient, Plan, IsDomain}
 use Rattle.dots_world.specs.Worlds.{Aim, mitigates, withdraws, MadeAsk}

@@ -1,5 +1,5 @@
 -- Which clients there are, of a server and of a gateway before it.
-use Rattle.std.specs.Prelude.{◌≡◌, ◌≢◌, ℕ, Bool, true, false, not, ◌&&◌, ◌==◌, if◌then◌else◌, IsTrue, List, slice_get, position, unwrap_or, Option, Some, None, option_map, bytes_eq}
+use Rattle.std.specs.Prelude.{◌≡◌, ℕ, Bool, true, false, not, ◌&&◌, ◌==◌, if◌then◌else◌, IsTrue, List, slice_get, position, unwrap_or, Option, Some, None, option_map, bytes_eq}
 use Rattle.dots_settings.specs.declared.peer.Role.TheVariants as role
 use Rattle.dots_settings.specs.Settings.{SettingsValue, IsSettings}
 use Rattle.dots_settings.specs.Lookups.{role_of}
@@ -54,7 +54,7 @@ from_gateway plan peer = if peer == upstream_of plan then Some the_server else o
 abbrev pub peer_at : Plan → ℕ → Option ℕ
 peer_at plan i = option_map (λ (c : PlanClient). c.peer) (slice_get plan.clients i)
 
--- the peer that the server is told of who sent to it, and the one that the gateway is
+-- the peer as which the server gets what a party sends, and the one as which the gateway does
 abbrev pub to_server : Plan → Party → Option ℕ
 to_server plan (a_client i) = peer_at plan i
 to_server plan the_gateway = Some plan.gateway

@@ -1,5 +1,5 @@
 -- Clients, a gateway and a server over a network that loses, repeats and reorders what is sent. The server is any machine over the events of a wire.
-use Rattle.std.specs.Prelude.{◌≡◌, ℕ, ◌%◌, ◌^◌, max, Bool, true, false, List, [], ◌∷◌, ◌++◌, length, map, flat_map, slice_get, ℤ, Option, Some, None, option_map, unwrap_or, IsSome, ⊤}
+use Rattle.std.specs.Prelude.{◌≡◌, ℕ, ◌%◌, ◌^◌, max, true, List, [], ◌∷◌, ◌++◌, length, map, flat_map, slice_get, ℤ, Option, Some, None, ⊤}
 use Rattle.std.specs.List.{slice_set, range_with_len}
 use Rattle.acl_lists.specs.declared.asked.Asked.{Asked}
 use Rattle.cbor_profile.specs.Valid.{IsValid}
@@ -19,7 +19,7 @@ use Rattle.dots_client.specs.declared.ask.Ask.TheVariants as ask
 use Rattle.dots_client.specs.declared.heard.Heard.{Heard}
 use Rattle.dots_client.specs.declared.heard.Heard.TheVariants as heard
 use Rattle.dots_client.specs.Client.{ClientValue, IsKnown, ask_fault, mid_for, scope_in, asked_at, tick_answer, tick_after}
-use Rattle.dots_client.specs.Hearing.{Hears}
+use Rattle.dots_client.specs.Receiving.{Receives}
 use Rattle.gateway_agent.specs.Passing.{GatewayState, Passes, opened}
 use Rattle.dots_machine.specs.Answering.{AreBytes}
 use Rattle.dots_world.specs.Plans.{Party, a_client, the_gateway, the_server, PlanClient, Plan, upstream_of, asks_at, from_server, from_gateway, to_server, to_gateway}
@@ -46,7 +46,7 @@ message_with number cuid mid withdraws = withdrawing number cuid mid
 abbrev pub message_by : List ℕ → MadeAsk → CoapMessage
 message_by cuid a = message_with a.number cuid a.mid a.aim
 
--- a refresh asks for the scope that stands in the ledger
+-- a refresh asks for the scope that the ledger has
 abbrev pub aim_for : ClientValue → Ask → Aim
 aim_for client (ask.New asked lifetime) = mitigates asked lifetime
 aim_for client (ask.Refresh mid lifetime) = mitigates (scope_in mid client.ledger) lifetime
@@ -60,7 +60,7 @@ abbrev pub CanSay : Aim → Type 0
 CanSay (mitigates asked lifetime) = CanAsk asked × IsGranted lifetime × IsValid (request_tree asked lifetime)
 CanSay withdraws = ⊤
 
--- The ask is taken: what it refreshes or withdraws stands in the ledger, a request can say it, and the client has no fault to find.
+-- The ask is taken: what it refreshes or withdraws is in the ledger, a request can say it, and the client has no fault to find.
 pub record MayAsk (client : ClientValue) (what : Ask) : Type 0 where
   pub known : IsKnown what client.ledger
   pub can : CanSay (aim_for client what)
@@ -169,13 +169,13 @@ abbrev pub answers_to : Heard → List (List ℕ)
 answers_to (heard.Beat answer) = answer ∷ []
 answers_to _ = []
 
-pub record HearsPacket {S : Type 0} (plan : Plan) (old : World S) (i : ℕ) (bytes : List ℕ) (new : World S) : Type 0 where
+pub record ReceivesPacket {S : Type 0} (plan : Plan) (old : World S) (i : ℕ) (bytes : List ℕ) (new : World S) : Type 0 where
   pub c : PlanClient
   pub client : ClientValue
   pub is : IsClient plan old i c client
   pub said : Heard
   pub after : ClientValue
-  pub hears : Hears client bytes old.time said after
+  pub receives : Receives client bytes old.time said after
   pub leaves : new ≡ changed old i c after (answers_to said)
 
 -- what is due is handed out, one message after the other until none is
@@ -204,7 +204,7 @@ abbrev pub Comes : {S : Type 0} → (S → Event → ℕ → List (S × OwnedOut
 Comes step plan old p None new = new ≡ old
 Comes step plan old p (Some the_server) new = (peer : ℕ) × (to_server plan p.source ≡ Some peer) × Serves step plan old (event.Datagram peer p.bytes) new
 Comes step plan old p (Some the_gateway) new = (peer : ℕ) × (to_gateway plan p.source ≡ Some peer) × PassesOn plan old (event.Datagram peer p.bytes) new
-Comes step plan old p (Some (a_client i)) new = HearsPacket plan old i p.bytes new
+Comes step plan old p (Some (a_client i)) new = ReceivesPacket plan old i p.bytes new
 
 abbrev pub Delivers : {S : Type 0} → (S → Event → ℕ → List (S × OwnedOut) → S → Type 0) → Plan → World S → Option Packet → World S → Type 0
 Delivers step plan old None new = new ≡ old

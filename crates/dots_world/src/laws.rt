@@ -11,7 +11,7 @@ ghost use Rattle.dots_world.specs.Plans.{PlanClient, Plan, IsPlan};
 ghost use Rattle.dots_world.specs.Worlds.{World, WorldEvent, begun, IsClient, Runs};
 ghost use Rattle.dots_world.specs.Granted.{IsGrantedTo, WasAsked};
 
-/// What a client's ledger shows as granted stands in the server's history: with its mid, its scope and its lifetime, for the client's domain and
+/// What a client's ledger shows as granted is in the server's history: with its mid, its scope and its lifetime, for the client's domain and
 /// under its name. So it is after each list of at most 2^31 events, whatever was lost, repeated and reordered, and whenever the server and the
 /// gateway restarted.
 pub fn ledgers_are_granted()

@@ -1,6 +1,6 @@
--- A grant that a client hears of is in the history: by the tokens it is that of its own ask.
+-- A grant that a client receives is in the history: by the tokens it is that of its own ask.
 use Rattle.std.specs.Int.{w64, to_be_bytes}
-use Rattle.std.proofs.Common.{◌≡◌, ◌⊎◌, inl, inr, ℕ, ℤ, ◌+◌, ◌<◌, ◌≤◌, ◌^◌, ◌==◌, ◌&&◌, not, Bool, true, false, cond, List, [], ◌∷◌, ◌++◌, slice_get, position, Contains, Option, Some, None, option_map, refl, sym, ap, ◌∙◌, subst, arith}
+use Rattle.std.proofs.Common.{◌≡◌, inl, inr, ℕ, ℤ, ◌<◌, ◌^◌, ◌==◌, not, Bool, true, false, cond, List, [], slice_get, position, Contains, Option, Some, None, option_map, refl, sym, ap, ◌∙◌, subst, arith}
 use Rattle.std.proofs.lemmas.Bool.{and_parts, eqb-true}
 use Rattle.std.proofs.lemmas.Option.{same_Some, none-some}
 use Rattle.acl_lists.specs.declared.asked.Asked.{Asked}
@@ -14,12 +14,12 @@ use Rattle.dots_client.specs.declared.granted.Granted.{Granted}
 use Rattle.dots_client.specs.Client.{ClientValue}
 use Rattle.dots_gateway.specs.declared.exchange.Exchange.{Exchange}
 use Rattle.machine_laws.specs.Granting.{IsGrant}
-use Rattle.dots_world.specs.Plans.{Party, a_client, the_gateway, the_server, PlanClient, Plan, IsPlan, upstream_of, asks_at, is_direct, is_behind, from_server}
-use Rattle.dots_world.specs.Worlds.{Aim, mitigates, withdraws, MadeAsk, Packet}
-use Rattle.dots_world.specs.Granted.{IsGrantedTo, IsOfAsk, Carries, HasNumber, IsExchangeOf, IsUnder, own, passed}
+use Rattle.dots_world.specs.Plans.{Party, a_client, the_gateway, the_server, PlanClient, Plan, IsPlan, asks_at, is_direct, is_behind, from_server}
+use Rattle.dots_world.specs.Worlds.{Aim, mitigates, withdraws, MadeAsk}
+use Rattle.dots_world.specs.Granted.{Carries, IsUnder, own, passed}
 use Rattle.dots_world.proofs.Lists.{placed, one_number}
-use Rattle.dots_world.proofs.Clients.{IsGrantHeard}
-use Rattle.dots_world.proofs.Kept.{scope_of, IsGood, AsksInv, TellsGrant, IsFrom, EntriesInv, IsWaiting, IsRow, ClientInv, GatewayInv, Answered, IsPassedGrant, Says, SaysOf, grant_number}
+use Rattle.dots_world.proofs.Clients.{IsGrantReceived}
+use Rattle.dots_world.proofs.Kept.{scope_of, AsksInv, IsFrom, EntriesInv, IsWaiting, IsRow, ClientInv, Answered, IsPassedGrant, Says, grant_number}
 
 -- ---- parties
 
@@ -134,7 +134,7 @@ one_put one other is = cc
 module _ (plan : Plan) (n : ℕ) (few : n < 2 ^ 62) (is_plan : IsPlan plan) (asks : List MadeAsk) (kept : List Exchange) (history : List Entry) (asked : AsksInv plan n asks) (entries : EntriesInv plan asks kept history)
     (one_made : (x y : Exchange) → Contains kept x → Contains kept y → x.number ≡ y.number → x ≡ y) (made_small : (x : Exchange) → Contains kept x → x.number < 2 ^ 64)
     (i : ℕ) (c : PlanClient) (k : ClientValue) (planned : slice_get plan.clients i ≡ Some c) (inv : ClientInv plan n asks history i c k)
-    (bytes : List ℕ) (row : Granted) (h : IsGrantHeard k bytes row) where
+    (bytes : List ℕ) (row : Granted) (h : IsGrantReceived k bytes row) where
   waits : IsWaiting asks i c h.w
   waits = inv.waiting h.w h.waits
 
@@ -156,10 +156,10 @@ module _ (plan : Plan) (n : ℕ) (few : n < 2 ^ 62) (is_plan : IsPlan plan) (ask
   by_ask e there f who tokens other g =
       let numbers = one_number waits.ask.number f.ask.number (small waits.ask waits.there) (small f.ask f.there) tokens in
       let same : waits.ask ≡ f.ask = asked.one waits.ask f.ask waits.there f.there (waits.who ∙ sym who) numbers in
-      let told = f.tells other row.mid row.lifetime g in
+      let said = f.says other row.mid row.lifetime g in
       let aim : f.ask.aim ≡ mitigates row.asked aimed.0 = sym (ap (λ (a : MadeAsk). a.aim) same) ∙ aimed.1 in
       let carried : Carries plan.settings (mitigates row.asked aimed.0) f.ask.mid e = subst (λ (aim : Aim). Carries plan.settings aim f.ask.mid e) aim f.of.carries in
-      let puts : carried.0 ≡ told.0 = one_put carried.0 told.0 (sym carried.1 ∙ told.1) in
+      let puts : carried.0 ≡ said.0 = one_put carried.0 said.0 (sym carried.1 ∙ said.1) in
       record {
         granted = record {
           entry = e;
@@ -170,9 +170,9 @@ module _ (plan : Plan) (n : ℕ) (few : n < 2 ^ 62) (is_plan : IsPlan plan) (ask
           cuid = f.of.cuid;
           put = carried.0;
           changes = carried.1;
-          mid = ap (λ (p : Put). p.mid) puts ∙ sym told.2;
+          mid = ap (λ (p : Put). p.mid) puts ∙ sym said.2;
           scope = carried.3;
-          lasts = ap (λ (p : Put). p.granted) puts ∙ sym told.3;
+          lasts = ap (λ (p : Put). p.granted) puts ∙ sym said.3;
         };
         ask = waits.ask;
         there = waits.there;
@@ -188,10 +188,13 @@ module _ (plan : Plan) (n : ℕ) (few : n < 2 ^ 62) (is_plan : IsPlan plan) (ask
     where
       f : IsFrom plan asks kept e
       f = entries e there
+
       at : IsAt plan false to i
       at = direct_at plan to i target
+
       g : IsGrant e.reply (to_be_bytes w64 waits.ask.number) row.mid row.lifetime
       g = subst (λ bytes. IsGrant bytes (to_be_bytes w64 waits.ask.number) row.mid row.lifetime) (sym reply) grant
+
       by : IsUnder plan kept e f.ask → IsRow plan asks history i row
       by (own d d_planned direct d_peer number) =
           by_ask e there f
@@ -207,12 +210,16 @@ module _ (plan : Plan) (n : ℕ) (few : n < 2 ^ 62) (is_plan : IsPlan plan) (ask
     where
       e : Entry
       e = p.answered.0
+
       f : IsFrom plan asks kept p.answered.0
       f = entries p.answered.0 p.answered.1
+
       at : IsAt plan true to i
       at = behind_at plan to i target
+
       g : IsGrant p.answered.0.reply (to_be_bytes w64 p.x.number) row.mid row.lifetime
       g = subst (λ bytes. IsGrant bytes (to_be_bytes w64 p.x.number) row.mid row.lifetime) (sym p.answered.3) p.grants
+
       by : IsUnder plan kept p.answered.0 f.ask → IsRow plan asks history i row
       by (own d d_planned direct d_peer number) = absurd (no_direct_gateway plan is_plan f.ask.who d d_planned direct (sym d_peer ∙ p.answered.2))
       by (passed y y_there of y_peer number) =
