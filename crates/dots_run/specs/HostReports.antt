@@ -11,25 +11,23 @@ use Rattle.dots_machine.specs.Commands.{is_word}
 use Rattle.dots_run.specs.declared.topic_outcome.TopicOutcome.{TopicOutcome}
 use Rattle.dots_run.specs.Reporting.{outcome_status, Reports}
 
--- this word, and behind it two that name a settings file and a host file
-abbrev pub is_of_host : List ℕ → List (List ℕ) → Bool
-is_of_host word (name ∷ settings ∷ host ∷ []) = bytes_eq name word && (is_word settings && is_word host)
-is_of_host word _ = false
+-- what these ask for in front of a settings file and a host file
+abbrev pub task_of : List ℕ → Option Task
+task_of name =
+    if bytes_eq name (codes "check") then Some task.Check
+    else if bytes_eq name (codes "journal") then Some task.List
+    else if bytes_eq name (codes "filters") then Some (task.Filters form.Report)
+    else None
 
--- `filters`, the same two, and `nft`
-abbrev pub is_for_nft : List (List ℕ) → Bool
-is_for_nft (name ∷ settings ∷ host ∷ last ∷ []) =
-    bytes_eq name (codes "filters") && (is_word settings && (is_word host && bytes_eq last (codes "nft")))
-is_for_nft _ = false
+-- and `filters` with `nft` behind both
+abbrev pub task_for : List ℕ → List ℕ → Option Task
+task_for name last = if bytes_eq name (codes "filters") && bytes_eq last (codes "nft") then Some (task.Filters form.Script) else None
 
 -- what `check SETTINGS HOSTFILE`, `journal SETTINGS HOSTFILE`, `filters SETTINGS HOSTFILE` and `filters SETTINGS HOSTFILE nft` ask for
 abbrev pub host_task : List (List ℕ) → Option Task
-host_task words =
-    if is_of_host (codes "check") words then Some task.Check
-    else if is_of_host (codes "journal") words then Some task.List
-    else if is_of_host (codes "filters") words then Some (task.Filters form.Report)
-    else if is_for_nft words then Some (task.Filters form.Script)
-    else None
+host_task (name ∷ settings ∷ host ∷ []) = if is_word settings && is_word host then task_of name else None
+host_task (name ∷ settings ∷ host ∷ last ∷ []) = if is_word settings && is_word host then task_for name last else None
+host_task _ = None
 
 -- what is found of both files, where they tell their bytes; no answer where a read of one failed, or for want of memory
 abbrev pub FindsHost : Task → Option (List ℕ) → Option (List ℕ) → Type 0 → Type 0 → Result Checked Unchecked → Type 0

@@ -5,7 +5,7 @@ ghost use Rattle.std.specs.Fn.{FnReturnsAt};
 ghost use Rattle.dots_host.specs.Causes.{Rose};
 ghost use Rattle.dots_machine.specs.Commands.{second_of, third_of};
 ghost use Rattle.host_checks.specs.declared.files.Task.{Task};
-ghost use Rattle.dots_run.specs.HostReports.{host_task, is_of_host, is_for_nft, ReportsHost};
+ghost use Rattle.dots_run.specs.HostReports.{host_task, task_of, task_for, ReportsHost};
 
 use crate::reporting::report_found;
 use crate::words::is_word;
@@ -43,45 +43,43 @@ impl<F: Drop, K: Drop> HostChecked<F, K> {
 pub fn host_task(words: &[String]) -> Option<Task>
     ensures { result ≡ host_task (map string_bytes words.now) }
 {
-    if is_of_host("check", words) {
-        return Some(Task::Check);
+    match words {
+        [name, settings, host] => {
+            if is_word(settings.as_bytes()) && is_word(host.as_bytes()) {
+                return task_of(name);
+            }
+            None
+        }
+        [name, settings, host, last] => {
+            if is_word(settings.as_bytes()) && is_word(host.as_bytes()) {
+                return task_for(name, last);
+            }
+            None
+        }
+        _ => None,
     }
-    if is_of_host("journal", words) {
-        return Some(Task::List);
+}
+
+/// What this word asks for in front of two files.
+fn task_of(name: &str) -> Option<Task>
+    ensures { result ≡ task_of name.now }
+{
+    match name {
+        "check" => Some(Task::Check),
+        "journal" => Some(Task::List),
+        "filters" => Some(Task::Filters(FilterForm::Report)),
+        _ => None,
     }
-    if is_of_host("filters", words) {
-        return Some(Task::Filters(FilterForm::Report));
-    }
-    if is_for_nft(words) {
+}
+
+/// And `filters` with `nft` behind both.
+fn task_for(name: &str, last: &str) -> Option<Task>
+    ensures { result ≡ task_for name.now last.now }
+{
+    if name == "filters" && last == "nft" {
         return Some(Task::Filters(FilterForm::Script));
     }
     None
-}
-
-/// Whether they are `filters`, two that name files, and `nft`.
-fn is_for_nft(words: &[String]) -> bool
-    ensures { result ≡ is_for_nft (map string_bytes words.now) }
-{
-    match words {
-        [name, settings, host, last] => {
-            name.as_str() == "filters"
-                && (is_word(settings.as_bytes())
-                    && (is_word(host.as_bytes()) && last.as_str() == "nft"))
-        }
-        _ => false,
-    }
-}
-
-/// Whether they are this word, and behind it two that name files.
-fn is_of_host(word: &str, words: &[String]) -> bool
-    ensures { result ≡ is_of_host word.now (map string_bytes words.now) }
-{
-    match words {
-        [name, settings, host] => {
-            name.as_str() == word && (is_word(settings.as_bytes()) && is_word(host.as_bytes()))
-        }
-        _ => false,
-    }
 }
 
 /// The second and the third word, and what the words ask for.
