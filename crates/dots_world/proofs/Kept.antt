@@ -1,10 +1,12 @@
 -- What is true of each world that can be reached, by its parts.
+use Rattle.std.specs.Prelude.{IsTrue}
 use Rattle.std.specs.Int.{w64, to_be_bytes}
 use Rattle.std.proofs.Common.{◌≡◌, ◌⊎◌, inl, inr, ℕ, ℤ, suc, ◌+◌, ◌<◌, ◌≤◌, ◌^◌, List, slice_get, slice_set, position, Contains, Option, Some, None, option_map, sym, ap, ◌∙◌, subst, arith}
 use Rattle.std.proofs.lemmas.Option.{same_Some}
 use Rattle.acl_lists.specs.declared.asked.Asked.{Asked}
 use Rattle.coap_message.specs.Message.{CoapMessage, IsMessage, spelling}
 use Rattle.coap_message.proofs.Whole.{one_message}
+use Rattle.dots_heads.specs.Operations.{is_client_name}
 use Rattle.dots_history.specs.declared.entry.Entry.{Entry}
 use Rattle.dots_history.specs.declared.put.Put.{Put}
 use Rattle.dots_history.specs.declared.change.Change.TheVariants as change
@@ -142,6 +144,7 @@ pub record IsForwarded (plan : Plan) (asks : List MadeAsk) (kept : List Exchange
   pub ask : MadeAsk
   pub there : Contains asks ask
   pub of : IsExchangeOf plan ask x
+  pub cuid : IsTrue (is_client_name of.c.cuid)
   pub domain : List ℕ
   pub named : domain_for (routes_of plan.gateway_settings) (upstream_of plan) of.c.peer ≡ Some domain
   pub spelled : bytes ≡ spelling (forwarded x.number domain (passage_for of.c.cuid ask.mid) (message_by of.c.cuid ask))
@@ -191,7 +194,7 @@ granted_more plan history later i row more g = record {
 }
 
 module _ (plan : Plan) (asks asks2 : List MadeAsk) (kept kept2 : List Exchange) (history later : List Entry) (more_asks : Within asks asks2) (more_kept : Within kept kept2) (more_history : Within history later) where
-  under_more : (e : Entry) (a : MadeAsk) → IsUnder plan kept e a → IsUnder plan kept2 e a
+  pub under_more : (e : Entry) (a : MadeAsk) → IsUnder plan kept e a → IsUnder plan kept2 e a
   under_more e a (own c planned direct peer number) = own c planned direct peer number
   under_more e a (passed x there of peer number) = passed x (more_kept x there) of peer number
 
@@ -222,7 +225,7 @@ module _ (plan : Plan) (asks asks2 : List MadeAsk) (kept kept2 : List Exchange) 
   request_more i c bytes (inr a) = inr a
 
   forwarded_more : (bytes : List ℕ) → IsForwarded plan asks kept bytes ⊎ IsAnswer bytes → IsForwarded plan asks2 kept2 bytes ⊎ IsAnswer bytes
-  forwarded_more bytes (inl f) = inl (record { x = f.x; made = more_kept f.x f.made; ask = f.ask; there = more_asks f.ask f.there; of = f.of; domain = f.domain; named = f.named; spelled = f.spelled })
+  forwarded_more bytes (inl f) = inl (record { x = f.x; made = more_kept f.x f.made; ask = f.ask; there = more_asks f.ask f.there; of = f.of; cuid = f.cuid; domain = f.domain; named = f.named; spelled = f.spelled })
   forwarded_more bytes (inr a) = inr a
 
   passed_more : (to : ℕ) (token : List ℕ) (mid : ℕ) (lifetime : ℤ) → IsPassedGrant plan kept history to token mid lifetime → IsPassedGrant plan kept2 later to token mid lifetime

@@ -1,6 +1,7 @@
 pub mod Lists
 pub mod Clients
 pub mod Messages
+pub mod Slashes
 pub mod Gateways
 pub mod Kept
 pub mod Received
@@ -9,3 +10,5 @@ pub mod Passing
 pub mod Over
 pub mod Machine
 pub mod Acts
+pub mod Once
+pub mod Repeats

@@ -21,10 +21,7 @@ contains_cases x xs y c = elim (Contains-append_cases (x ∷ []) xs y c) [
   | inr more ↦ inr more
 ]
 
--- what holds of the first and of all others
-pub by_cases : {A : Type 0} (P : A → Type 0) (x : A) (xs : List A) → P x → ((y : A) → Contains xs y → P y) → (y : A) → Contains (x ∷ xs) y → P y
-by_cases P x xs one others y c = elim (contains_cases x xs y c) [ inl is ↦ subst P is one | inr more ↦ others y more ]
-
+-- what holds of the last and of all others
 pub by_last : {A : Type 0} (P : A → Type 0) (xs : List A) (x : A) → ((y : A) → Contains xs y → P y) → P x → (y : A) → Contains (xs ++ x ∷ []) y → P y
 by_last P xs x others one y c = elim (Contains-push_cases xs x y c) [ inl before ↦ others y before | inr is ↦ subst P is one ]
 

@@ -57,6 +57,10 @@ use Rattle.machine_laws.proofs.Telling.{Says, quiet, plain_message, body_message
 use Rattle.dots_world.specs.Plans.{Plan, IsPlan, named_domain}
 use Rattle.dots_world.specs.Worlds.{Aim, mitigates, withdraws, message_with, CanSay}
 use Rattle.dots_world.proofs.Kept.{Answered}
+use Rattle.dots_lists.specs.Name.{is_name}
+use Rattle.dots_heads.specs.declared.reject.Reject.TheVariants as reject
+use Rattle.dots_world.proofs.Messages.{written}
+use Rattle.dots_world.proofs.Slashes.{slash_head, head_refused}
 use Rattle.dots_world.proofs.Serving.{AddsOne, IsEntryOf, IsServing}
 
 abbrev pub history_of : State → List Entry
@@ -227,6 +231,19 @@ module _ (plan : Plan) (is_plan : IsPlan plan) where
           of_withdrawal plan is_plan (later old at).time peer _ e c m next mid cuid (omega arith) refl is.0 (record { cdid = Some domain; cuid = cuid; mid = Some mid }) refl refl is.1,
         ))
 
+  -- a client whose name has a slash adds nothing
+  asked_law : (old : State) (peer number mid : ℕ) (cuid : List ℕ) (domain at : ℕ) (owed : List (State × OwnedOut)) (new : State) → role_of plan.settings peer ≡ role.Client domain → IsTrue (is_name cuid) → mid < 2 ^ 32
+      → (aim : Aim) → CanSay aim → AreBytes (spelling (message_with number cuid mid aim)) → Step plan.settings old (event.Datagram peer (spelling (message_with number cuid mid aim))) at owed new
+      → (b : Bool) → is_client_name cuid ≡ b → AddsOne old.history new.history (λ e. (e.domain ≡ domain) × IsEntryOf plan peer number cuid mid aim e)
+  asked_law old peer number mid cuid domain at owed new whose named small aim can are st true e = asked_adds old peer number mid cuid domain at owed new whose e small aim can are st
+  asked_law old peer number mid cuid domain at owed new whose named small aim can are st false e = inl (by (step_adds plan.settings old peer _ at owed new st))
+    where
+      by : AddsWhatIsAsked plan.settings (later old at).time peer (spelling (message_with number cuid mid aim)) old.history new.history → new.history ≡ old.history
+      by (inl same) = same
+      by (inr (x, is, c)) =
+          absurd (head_refused (message_with number cuid mid aim) false reject.Parameter c.exchange c.asked (written number mid cuid named small aim) (slash_head number mid cuid named e small aim)
+          (subst (λ g. IsReceived (spelling (message_with number cuid mid aim)) g (received.Asked c.exchange c.asked)) (ap is_gateway whose) c.received))
+
   grants_kept : (old : State) (came : Event) (at : ℕ) (owed : List (State × OwnedOut)) (new : State) (to : ℕ) (bytes token : List ℕ) (mid : ℕ) (lifetime : ℤ)
       → Step plan.settings old came at owed new → Contains (outs_of owed) (owned.To to bytes) → IsGrant bytes token mid lifetime → Answered new.history to bytes
   grants_kept old (event.Datagram peer datagram) at owed new to bytes token mid lifetime st has g =
@@ -244,7 +261,7 @@ module _ (plan : Plan) (is_plan : IsPlan plan) where
     ticks = λ old at owed new st. tick_history plan.settings (later old at) st.0 new st.2;
     restarts = λ old at owed new st. ap (λ (s : State). s.history) st.1;
     answers = answers;
-    asked = λ old peer number mid cuid aim domain at owed new whose named small can are st. asked_adds old peer number mid cuid domain at owed new whose named small aim can are st;
+    asked = λ old peer number mid cuid aim domain at owed new whose named small can are st. asked_law old peer number mid cuid domain at owed new whose named small aim can are st (is_client_name cuid) refl;
     forwards = λ old peer next number mid domain cuid aim at owed new whose named_domain_is named small can are st.
         passed_adds old peer next number mid domain cuid at owed new whose named_domain_is named small aim can are st;
     grants = grants_kept;

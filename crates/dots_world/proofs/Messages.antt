@@ -3,7 +3,7 @@ use Rattle.std.specs.Prelude.{IsTrue, nat_le}
 use Rattle.std.specs.List.{list_all}
 use Rattle.std.specs.Char.{is_ascii_graphic}
 use Rattle.std.specs.Int.{w64, to_be_bytes}
-use Rattle.std.proofs.Common.{◌≡◌, inl, inr, ℕ, ℤ, ◌<◌, ◌≤◌, ◌^◌, ◌%◌, ◌&&◌, Bool, true, false, List, [], ◌++◌, length, codes, decimal, Contains, refl, sym, ap, ◌∙◌, subst, arith}
+use Rattle.std.proofs.Common.{◌≡◌, inl, inr, ℕ, ℤ, ◌<◌, ◌≤◌, ◌^◌, ◌&&◌, Bool, true, false, List, [], ◌++◌, length, codes, decimal, Contains, refl, sym, ap, ◌∙◌, subst, arith}
 use Rattle.std.proofs.lemmas.Bool.{and_parts, leb-true}
 use Rattle.std.proofs.lemmas.Fmt.{length-decimal-le}
 use Rattle.std.proofs.lemmas.List.{length-append}
@@ -13,7 +13,6 @@ use Rattle.coap_message.specs.Message.{CoapMessage, IsMessage, spelling}
 use Rattle.coap_message.proofs.Whole.{one_message}
 use Rattle.coap_replies.specs.Exchanges.{is_request}
 use Rattle.dots_lists.specs.Name.{is_name}
-use Rattle.dots_heads.specs.Operations.{is_client_name}
 use Rattle.agent_messages.specs.Requests.{asking, withdrawing}
 use Rattle.dots_client.specs.declared.heard.Heard.{Heard}
 use Rattle.dots_client.specs.declared.heard.Heard.TheVariants as heard
@@ -25,25 +24,28 @@ use Rattle.dots_world.proofs.Lists.{not_in_none, contains_cases}
 
 -- ---- what a client writes is a message
 
-client_length : (cuid : List ℕ) → IsTrue (is_client_name cuid) → length (codes "cuid=" ++ cuid) ≤ 65804
+pub client_length : (cuid : List ℕ) → IsTrue (is_name cuid) → length (codes "cuid=" ++ cuid) ≤ 255
 client_length cuid is =
-    let named = (and_parts (is_name cuid) _ is).0 in
-    let parts = and_parts (nat_le 1 (length cuid) && nat_le (length cuid) 64) (list_all is_ascii_graphic cuid) named in
+    let parts = and_parts (nat_le 1 (length cuid) && nat_le (length cuid) 64) (list_all is_ascii_graphic cuid) is in
     let few = leb-true (length cuid) 64 (and_parts (nat_le 1 (length cuid)) (nat_le (length cuid) 64) parts.0).1 in
     let sum = length-append (codes "cuid=") cuid in
     omega (arith, sum, few)
 
-mid_length : (mid : ℕ) → mid < 2 ^ 32 → length (codes "mid=" ++ decimal mid) ≤ 65804
+pub mid_length : (mid : ℕ) → mid < 2 ^ 32 → length (codes "mid=" ++ decimal mid) ≤ 255
 mid_length mid below =
     let few = length-decimal-le 10 mid (omega arith) (omega (arith, below)) (omega (arith, below)) in
     let sum = length-append (codes "mid=") (decimal mid) in
     omega (arith, sum, few)
 
-module _ (number mid : ℕ) (cuid : List ℕ) (named : IsTrue (is_client_name cuid)) (below : mid < 2 ^ 32) where
+module _ (number mid : ℕ) (cuid : List ℕ) (named : IsTrue (is_name cuid)) (below : mid < 2 ^ 32) where
+  named_length : length (codes "cuid=" ++ cuid) ≤ 65804
+  named_length = let few = client_length cuid named in omega (arith, few)
+
+  digits : length (codes "mid=" ++ decimal mid) ≤ 65804
+  digits = let few = mid_length mid below in omega (arith, few)
+
   asking_message : (asked : Asked) (lifetime : ℤ) → IsMessage (asking number cuid mid asked lifetime)
   asking_message asked lifetime =
-      let named_length = client_length cuid named in
-      let digits = mid_length mid below in
       record {
         code = omega arith;
         identifier = omega arith;
@@ -80,8 +82,6 @@ module _ (number mid : ℕ) (cuid : List ℕ) (named : IsTrue (is_client_name cu
 
   withdrawing_message : IsMessage (withdrawing number cuid mid)
   withdrawing_message =
-      let named_length = client_length cuid named in
-      let digits = mid_length mid below in
       record {
         code = omega arith;
         identifier = omega arith;
@@ -118,10 +118,6 @@ module _ (number mid : ℕ) (cuid : List ℕ) (named : IsTrue (is_client_name cu
 pub written_token : (number mid : ℕ) (cuid : List ℕ) (aim : Aim) → (message_with number cuid mid aim).token ≡ to_be_bytes w64 number
 written_token number mid cuid (mitigates asked lifetime) = refl
 written_token number mid cuid withdraws = refl
-
-pub written_id : (number mid : ℕ) (cuid : List ℕ) (aim : Aim) → (message_with number cuid mid aim).identifier ≡ number % 2 ^ 16
-written_id number mid cuid (mitigates asked lifetime) = refl
-written_id number mid cuid withdraws = refl
 
 -- ---- what asks nothing
 

@@ -111,11 +111,11 @@ module _ {S : Type 0} (plan : Plan) (is_plan : IsPlan plan) (history : S → Lis
       let waits = k_inv.waiting v.0 v.1 in
       inl (record { ask = waits.ask; there = waits.there; who = waits.who; spelled = v.2 ∙ waits.bytes })))
 
-  all_hand : (n : ℕ) (places : List ℕ) (old new : World S) → Inv plan history n old → AllHandOut plan places old new → Inv plan history n new
+  pub all_hand : (n : ℕ) (places : List ℕ) (old new : World S) → Inv plan history n old → AllHandOut plan places old new → Inv plan history n new
   all_hand n [] old new inv h = subst (Inv plan history n) (sym h) inv
   all_hand n (i ∷ places) old new inv h = all_hand n places h.0 new (hands n old i h.0 inv h.1) h.2
 
-  made_small : (n : ℕ) → n < 2 ^ 62 → (w : World S) → Inv plan history n w → (x : Exchange) → Contains w.gateway.kept x → x.number < 2 ^ 64
+  pub made_small : (n : ℕ) → n < 2 ^ 62 → (w : World S) → Inv plan history n w → (x : Exchange) → Contains w.gateway.kept x → x.number < 2 ^ 64
   made_small n few w inv x there =
       let le = inv.gateway.last x there in
       let below = inv.gateway.below in
@@ -308,7 +308,7 @@ module _ {S : Type 0} (plan : Plan) (is_plan : IsPlan plan) (history : S → Lis
   timed : (n : ℕ) (w : World S) (at : ℕ) → Inv plan history n w → Inv plan history n (record w { time = at })
   timed n w at inv = record { asks = inv.asks; clients = inv.clients; gateway = inv.gateway; packets = inv.packets; entries = inv.entries }
 
-  begins_keep : (n : ℕ) → n < 2 ^ 62 → (old : World S) (what : WorldEvent) (new : World S) → Inv plan history n old → Begins step plan old what new → Inv plan history (suc n) new
+  pub begins_keep : (n : ℕ) → n < 2 ^ 62 → (old : World S) (what : WorldEvent) (new : World S) → Inv plan history n old → Begins step plan old what new → Inv plan history (suc n) new
   begins_keep n few old (asks i what) new inv b = asks_keep n few old i what new inv b
   begins_keep n few old (ticks at) new inv (owed, server, st, leaves) =
       subst (Inv plan history (suc n)) (sym leaves)

@@ -39,6 +39,7 @@ use Rattle.dots_world.specs.Worlds.{Aim, mitigates, withdraws, MadeAsk, message_
 use Rattle.dots_world.specs.Granted.{IsExchangeOf}
 use Rattle.dots_world.proofs.Lists.{not_in_none, contains_cases, by_last, filtered, mapped}
 use Rattle.dots_world.proofs.Messages.{written, written_token, IsAnswer, answers_no_request}
+use Rattle.dots_world.proofs.Slashes.{slash_wanted}
 use Rattle.dots_world.proofs.Gateways.{IsPassed, IsFresh, IsAgain, UpFine, ups_fine, IsBeaten, IsReturned, downs_fine, IsKeyed, grant_returned}
 use Rattle.dots_world.proofs.Kept.{Within, AsksInv, IsMade, IsOfKept, GatewayInv, raised_gateway, IsClientRequest, Answered, GrantsBy, IsForwarded, SaysOf}
 
@@ -117,9 +118,6 @@ pub record Left (plan : Plan) (n : ℕ) (asks : List MadeAsk) (history : List En
   pub says : (p : Packet) → Contains (flat_map (packet_passed plan) outs) p → SaysOf plan asks now history p
 
 module _ (plan : Plan) (is_plan : IsPlan plan) (n : ℕ) (few : n < 2 ^ 62) (asks : List MadeAsk) (history : List Entry) (asked_inv : AsksInv plan n asks) (core : GatewayValue) (kept : List Exchange) (inv : GatewayInv plan n asks core kept) where
-  small_ask : (a : MadeAsk) → Contains asks a → a.number < 2 ^ 64
-  small_ask a there = let number = (asked_inv.good a there).number in omega (arith, number, few)
-
   -- what is kept, and the gateway, stay
   stays : (outs : List OwnedOut) (core2 : GatewayValue) (kept2 : List Exchange) → core2 ≡ core → kept2 ≡ kept → ((p : Packet) → Contains (flat_map (packet_passed plan) outs) p → SaysOf plan asks kept history p)
       → Left plan (suc n) asks history kept outs core2 kept2
@@ -171,6 +169,16 @@ module _ (plan : Plan) (is_plan : IsPlan plan) (n : ℕ) (few : n < 2 ^ 62) (ask
             }
         by (inr a) = absurd (answers_no_request bytes message a p.is_message p.spelled p.asks)
 
+    -- a client whose name has a slash is refused
+    client_named : (message : CoapMessage) (f : IsFor message) (taken : Passage) → wanted_of message ≡ Ok (passage taken) → IsTrue (is_client_name c.cuid)
+    client_named message f taken wanted = by (is_client_name c.cuid) refl
+      where
+        by : (b : Bool) → is_client_name c.cuid ≡ b → IsTrue (is_client_name c.cuid)
+        by true e = e
+        by false e =
+            let good = asked_inv.good f.ask f.there in
+            absurd (cc (sym wanted ∙ ap wanted_of f.same ∙ slash_wanted f.ask.number f.ask.mid c.cuid (is_plan.clients i c planned).named e good.mid f.ask.aim))
+
     exchange_of : (message : CoapMessage) (f : IsFor message) (x : Exchange) → x.peer ≡ c.peer → x.token ≡ message.token → IsExchangeOf plan f.ask x
     exchange_of message f x peer token = record {
       c = c;
@@ -184,16 +192,17 @@ module _ (plan : Plan) (is_plan : IsPlan plan) (n : ℕ) (few : n < 2 ^ 62) (ask
         → x.number ≡ number → x.peer ≡ c.peer → x.token ≡ message.token → IsForwarded plan asks kept2 sent
     unfolding exchange_of
     forwarded_for sent number message p f kept2 x there number_is peer token =
-        let valid = is_plan.clients i c planned in
         let good = asked_inv.good f.ask f.there in
+        let cuid_is = client_named message f p.taken p.wanted in
         let taken : p.taken ≡ passage_for c.cuid f.ask.mid =
-        one_passage p.taken (passage_for c.cuid f.ask.mid) (sym p.wanted ∙ ap wanted_of f.same ∙ client_passes f.ask.number f.ask.mid c.cuid f.ask.aim valid.named good.mid) in
+        one_passage p.taken (passage_for c.cuid f.ask.mid) (sym p.wanted ∙ ap wanted_of f.same ∙ client_passes f.ask.number f.ask.mid c.cuid f.ask.aim cuid_is good.mid) in
         record {
           x = x;
           made = there;
           ask = f.ask;
           there = f.there;
           of = exchange_of message f x peer token;
+          cuid = cuid_is;
           domain = p.domain;
           named = subst₂ (λ routes up. domain_for routes up c.peer ≡ Some p.domain) inv.routes inv.upstream p.of;
           spelled = p.written ∙ ap (λ k. spelling (forwarded k p.domain p.taken message)) (sym number_is)

@@ -1,3 +1,4 @@
 pub mod Plans
 pub mod Worlds
 pub mod Granted
+pub mod Once

@@ -1,22 +1,14 @@
 -- Which clients there are, of a server and of a gateway before it.
 use Rattle.std.specs.Prelude.{◌≡◌, ℕ, Bool, true, false, not, ◌&&◌, ◌==◌, if◌then◌else◌, IsTrue, List, slice_get, position, unwrap_or, Option, Some, None, option_map, bytes_eq}
+use Rattle.dots_lists.specs.Name.{is_name}
 use Rattle.dots_settings.specs.declared.peer.Role.TheVariants as role
 use Rattle.dots_settings.specs.Settings.{SettingsValue, IsSettings}
 use Rattle.dots_settings.specs.Lookups.{role_of}
 use Rattle.dots_heads.specs.Operations.{is_client_name}
 use Rattle.dots_gateway.specs.Routes.{routes_of, domain_for}
-
-pub data Party : Type 0 where
-  a_client : ℕ → Party
-  the_gateway : Party
-  the_server : Party
-
--- A client with its peer number, which is one of the gateway's settings where it asks the gateway, and else one of the server's.
-pub record PlanClient : Type 0 where
-  pub peer : ℕ
-  pub cuid : List ℕ
-  -- whether it asks the gateway
-  pub behind : Bool
+pub use Rattle.dots_world.specs.declared.party.Party.{Party}
+pub use Rattle.dots_world.specs.declared.party.Party.TheVariants.{Client as a_client, Gateway as the_gateway, Server as the_server}
+pub use Rattle.dots_world.specs.declared.plan.PlanClient.{PlanClient}
 
 -- the server's settings and the gateway's, the peer that the gateway is for the server, and the clients by their places
 pub record Plan : Type 0 where
@@ -79,14 +71,14 @@ pub data IsDomain (plan : Plan) (c : PlanClient) (domain : ℕ) : Type 0 where
 
 -- ---- plans that can be
 
--- A client's name has no slash, as in the path of each request. A direct client is one of the server's settings, and one behind the gateway one of the
--- gateway's.
+-- A direct client is one of the server's settings, and one behind the gateway one of the gateway's.
 pub record IsPlanClient (plan : Plan) (c : PlanClient) : Type 0 where
-  pub named : IsTrue (is_client_name c.cuid)
+  pub named : IsTrue (is_name c.cuid)
   pub direct : c.behind ≡ false → (domain : ℕ) × (role_of plan.settings c.peer ≡ role.Client domain)
   pub behind : c.behind ≡ true → (name : List ℕ) × (domain_for (routes_of plan.gateway_settings) (upstream_of plan) c.peer ≡ Some name)
 
--- No two of those that ask the server have one peer number, and no two of those that ask the gateway.
+-- The names of the gateway's domains have no slash, as those of a settings file. No two of those that ask the server have one peer number, and no
+-- two of those that ask the gateway.
 pub record IsPlan (plan : Plan) : Type 0 where
   pub settings : IsSettings plan.settings
   pub gateway : role_of plan.settings plan.gateway ≡ role.Gateway

@@ -22,6 +22,9 @@ use Rattle.dots_client.specs.Client.{ClientValue, IsKnown, ask_fault, mid_for, s
 use Rattle.dots_client.specs.Receiving.{Receives}
 use Rattle.gateway_agent.specs.Passing.{GatewayState, Passes, opened}
 use Rattle.dots_machine.specs.Answering.{AreBytes}
+pub use Rattle.dots_world.specs.declared.party.Packet.{Packet}
+pub use Rattle.dots_world.specs.declared.event.WorldEvent.{WorldEvent}
+pub use Rattle.dots_world.specs.declared.event.WorldEvent.TheVariants.{Ask as asks, Tick as ticks, Restart as restarts, GatewayRestart as gateway_restarts, Deliver as delivers}
 use Rattle.dots_world.specs.Plans.{Party, a_client, the_gateway, the_server, PlanClient, Plan, upstream_of, asks_at, from_server, from_gateway, to_server, to_gateway}
 
 -- ---- asks
@@ -68,12 +71,6 @@ pub record MayAsk (client : ClientValue) (what : Ask) : Type 0 where
 
 -- ---- a world
 
--- what was sent, by whom and to whom; to nobody where a server sends to a peer that is none of the plan
-pub record Packet : Type 0 where
-  pub source : Party
-  pub target : Option Party
-  pub bytes : List ℕ
-
 -- All packets that were ever sent, in the order of sending; the acts of the server; and all asks that were ever made. The exchanges that the gateway ever
 -- made are those that it keeps.
 pub record World (S : Type 0) : Type 0 where
@@ -98,15 +95,6 @@ begun plan server = record {
   acts = [];
   asks = [];
 }
-
--- ---- events
-
-pub data WorldEvent : Type 0 where
-  asks : (i : ℕ) → Ask → WorldEvent
-  ticks : (at : ℕ) → WorldEvent
-  restarts : WorldEvent
-  gateway_restarts : WorldEvent
-  delivers : (k : ℕ) → WorldEvent
 
 -- ---- what the parties send
 

@@ -8,8 +8,9 @@ ghost use Rattle.dots_client.specs.declared.granted.Granted.{Granted};
 ghost use Rattle.dots_client.specs.Client.{ClientValue};
 ghost use Rattle.dots_machine.specs.Machine.{State, begun_from, Step};
 ghost use Rattle.dots_world.specs.Plans.{PlanClient, Plan, IsPlan};
-ghost use Rattle.dots_world.specs.Worlds.{World, WorldEvent, begun, IsClient, Runs};
-ghost use Rattle.dots_world.specs.Granted.{IsGrantedTo, WasAsked};
+ghost use Rattle.dots_world.specs.Worlds.{MadeAsk, World, WorldEvent, begun, IsClient, Runs};
+ghost use Rattle.dots_world.specs.Granted.{IsGrantedTo, WasAsked, HasOneEntry};
+ghost use Rattle.dots_world.specs.Once.{Finds, RunsFinding};
 
 /// What a client's ledger shows as granted is in the server's history: with its mid, its scope and its lifetime, for the client's domain and
 /// under its name. So it is after each list of at most 2^31 events, whatever was lost, repeated and reordered, and whenever the server and the
@@ -21,8 +22,7 @@ pub fn ledgers_are_granted()
         → IsGrantedTo plan world.server.history i row }
 {}
 
-/// Each entry of the server's history carries what a client asked, for the domain that the settings give this client and under its name, whatever
-/// cdid the client wrote.
+/// Each entry of the server's history carries what a client asked, for the domain that the settings give this client and under its name.
 pub fn entries_are_asked()
     ensures { (plan : Plan) (events : List WorldEvent) (world : World State) → IsPlan plan → length events ≤ 2 ^ 31
         → Runs (Step plan.settings) plan (begun plan (begun_from plan.settings [])) events world
@@ -35,4 +35,12 @@ pub fn acts_are_a_run()
         → Runs (Step plan.settings) plan (begun plan (begun_from plan.settings [])) events world
         → (acts : List Timed) → map (λ (timed : Timed). timed.act) acts ≡ world.acts
         → (trace : List State) × Trace (Step plan.settings) (resting (begun_from plan.settings [])) acts trace (resting world.server) }
+{}
+
+/// An ask has at most one entry where each of its packets that comes to the server, once there is an entry of it, finds that entry remembered by
+/// the packet's own Message ID: whether its client sent it, or the gateway passed it on, under whatever number.
+pub fn an_ask_has_one_entry()
+    ensures { (plan : Plan) (a : MadeAsk) (events : List WorldEvent) (world : World State) → IsPlan plan → length events ≤ 2 ^ 31
+        → RunsFinding (Step plan.settings) (λ state. state.history) (Finds plan.settings) plan a (begun plan (begun_from plan.settings [])) events world
+        → Contains world.asks a → HasOneEntry plan world.gateway.kept world.server.history a }
 {}

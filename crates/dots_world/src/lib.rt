@@ -2,10 +2,17 @@
 //!
 //! Read `specs/Plans.antt` first, which has the parties, then `specs/Worlds.antt`: a world, an event of it, and a run over any list of events,
 //! with restarts of the server and of the gateway among them. The server is any machine over the events of a wire there. `specs/Granted.antt` says
-//! what a ledger shows and what an entry carries. Each law is the contract of a function whose body does nothing, with the machine of
-//! `dots_machine` as the server: [`ledgers_are_granted`], [`entries_are_asked`] and [`acts_are_a_run`].
+//! what a ledger shows and what an entry carries, and `specs/Once.antt` when an ask has one entry. Each law is the contract of a function whose body
+//! does nothing, with the machine of `dots_machine` as the server: [`ledgers_are_granted`], [`entries_are_asked`], [`an_ask_has_one_entry`] and
+//! [`acts_are_a_run`].
 #![tactic(auto)]
 
+mod event;
 mod laws;
+mod party;
+mod plan;
 
-pub use laws::{acts_are_a_run, entries_are_asked, ledgers_are_granted};
+pub use event::WorldEvent;
+pub use laws::{acts_are_a_run, an_ask_has_one_entry, entries_are_asked, ledgers_are_granted};
+pub use party::{Packet, Party};
+pub use plan::PlanClient;
