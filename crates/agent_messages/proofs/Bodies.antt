@@ -86,118 +86,119 @@ lifetime_back (negsuc n) is = ap (λ k. lifetime_of (integer (negsuc k))) is ∙
 abbrev Rest : Type 0
 Rest = List (Tree × Tree)
 
-abbrev reading : Scope → Rest → Result Scope Reject
-reading said rest = each_field scope_field said (fields_in (pairs_of rest))
+module _ (gateway : Bool) where
+  abbrev reading : Scope → Rest → Result Scope Reject
+  reading said rest = each_field (scope_field gateway) said (fields_in (pairs_of rest))
 
-abbrev said : List PrefixValue → List Ports → List ℕ → List (List ℕ) → List (List ℕ) → Option ℤ → Scope
-said prefixes ports protocols names aliases lifetime =
-    record { asked = record { prefixes = prefixes; ports = ports; protocols = protocols; names = names; aliases = aliases }; lifetime = lifetime }
+  abbrev said : List PrefixValue → List Ports → List ℕ → List (List ℕ) → List (List ℕ) → Option ℤ → Scope
+  said prefixes ports protocols names aliases lifetime =
+      record { asked = record { prefixes = prefixes; ports = ports; protocols = protocols; names = names; aliases = aliases }; lifetime = lifetime; trigger = true }
 
-read_prefixes : (ps : List PrefixValue) (rest : Rest) → length ps ≤ 16 → AllByRecursion IsPrefix ps → reading nothing_asked (listed 6 (map prefix_tree ps) ++ rest) ≡ reading (said ps [] [] [] [] None) rest
-read_prefixes [] rest few all = refl
-read_prefixes (p ∷ ps) rest few all =
-    ap (λ r. (r >>= λ x. Ok (said x [] [] [] [] None)) >>= λ more. reading more rest) (array_back 6 16 prefix_of prefix_tree (p ∷ ps) few (prefixes_back (p ∷ ps) all))
+  read_prefixes : (ps : List PrefixValue) (rest : Rest) → length ps ≤ 16 → AllByRecursion IsPrefix ps → reading nothing_asked (listed 6 (map prefix_tree ps) ++ rest) ≡ reading (said ps [] [] [] [] None) rest
+  read_prefixes [] rest few all = refl
+  read_prefixes (p ∷ ps) rest few all =
+      ap (λ r. (r >>= λ x. Ok (said x [] [] [] [] None)) >>= λ more. reading more rest) (array_back 6 16 prefix_of prefix_tree (p ∷ ps) few (prefixes_back (p ∷ ps) all))
 
-module _ (prefixes : List PrefixValue) where
-  read_ports : (ps : List Ports) (rest : Rest) → length ps ≤ 16 → AllByRecursion IsRange ps
-      → reading (said prefixes [] [] [] [] None) (listed 7 (map range_tree ps) ++ rest) ≡ reading (said prefixes ps [] [] [] None) rest
-  read_ports [] rest few all = refl
-  read_ports (p ∷ ps) rest few all =
-      ap (λ r. (r >>= λ x. Ok (said prefixes x [] [] [] None)) >>= λ more. reading more rest) (array_back 7 16 range_of range_tree (p ∷ ps) few (ports_back (p ∷ ps) all))
+  module _ (prefixes : List PrefixValue) where
+    read_ports : (ps : List Ports) (rest : Rest) → length ps ≤ 16 → AllByRecursion IsRange ps
+        → reading (said prefixes [] [] [] [] None) (listed 7 (map range_tree ps) ++ rest) ≡ reading (said prefixes ps [] [] [] None) rest
+    read_ports [] rest few all = refl
+    read_ports (p ∷ ps) rest few all =
+        ap (λ r. (r >>= λ x. Ok (said prefixes x [] [] [] None)) >>= λ more. reading more rest) (array_back 7 16 range_of range_tree (p ∷ ps) few (ports_back (p ∷ ps) all))
 
-  module _ (ports : List Ports) where
-    read_protocols : (ns : List ℕ) (rest : Rest) → length ns ≤ 16 → AllByRecursion (λ (n : ℕ). n < 256) ns
-        → reading (said prefixes ports [] [] [] None) (listed 10 (map unsigned ns) ++ rest) ≡ reading (said prefixes ports ns [] [] None) rest
-    read_protocols [] rest few all = refl
-    read_protocols (n ∷ ns) rest few all =
-        ap (λ r. (r >>= λ x. Ok (said prefixes ports x [] [] None)) >>= λ more. reading more rest) (array_back 10 16 protocol_of unsigned (n ∷ ns) few (protocols_back (n ∷ ns) all))
+    module _ (ports : List Ports) where
+      read_protocols : (ns : List ℕ) (rest : Rest) → length ns ≤ 16 → AllByRecursion (λ (n : ℕ). n < 256) ns
+          → reading (said prefixes ports [] [] [] None) (listed 10 (map unsigned ns) ++ rest) ≡ reading (said prefixes ports ns [] [] None) rest
+      read_protocols [] rest few all = refl
+      read_protocols (n ∷ ns) rest few all =
+          ap (λ r. (r >>= λ x. Ok (said prefixes ports x [] [] None)) >>= λ more. reading more rest) (array_back 10 16 protocol_of unsigned (n ∷ ns) few (protocols_back (n ∷ ns) all))
 
-    module _ (protocols : List ℕ) where
-      read_names : (ns : List (List ℕ)) (rest : Rest) → length ns ≤ 8 → AllByRecursion (λ (name : List ℕ). IsTrue (is_name name)) ns
-          → reading (said prefixes ports protocols [] [] None) (listed 11 (map text ns) ++ rest) ≡ reading (said prefixes ports protocols ns [] None) rest
-      read_names [] rest few all = refl
-      read_names (n ∷ ns) rest few all =
-          ap (λ r. (r >>= λ x. Ok (said prefixes ports protocols x [] None)) >>= λ more. reading more rest) (array_back 11 8 (name_of 11) text (n ∷ ns) few (names_back 11 (n ∷ ns) all))
+      module _ (protocols : List ℕ) where
+        read_names : (ns : List (List ℕ)) (rest : Rest) → length ns ≤ 8 → AllByRecursion (λ (name : List ℕ). IsTrue (is_name name)) ns
+            → reading (said prefixes ports protocols [] [] None) (listed 11 (map text ns) ++ rest) ≡ reading (said prefixes ports protocols ns [] None) rest
+        read_names [] rest few all = refl
+        read_names (n ∷ ns) rest few all =
+            ap (λ r. (r >>= λ x. Ok (said prefixes ports protocols x [] None)) >>= λ more. reading more rest) (array_back 11 8 (name_of 11) text (n ∷ ns) few (names_back 11 (n ∷ ns) all))
 
-      module _ (names : List (List ℕ)) where
-        read_aliases : (ns : List (List ℕ)) (rest : Rest) → length ns ≤ 8 → AllByRecursion (λ (name : List ℕ). IsTrue (is_name name)) ns
-            → reading (said prefixes ports protocols names [] None) (listed 13 (map text ns) ++ rest) ≡ reading (said prefixes ports protocols names ns None) rest
-        read_aliases [] rest few all = refl
-        read_aliases (n ∷ ns) rest few all =
-            ap (λ r. (r >>= λ x. Ok (said prefixes ports protocols names x None)) >>= λ more. reading more rest) (array_back 13 8 (name_of 13) text (n ∷ ns) few (names_back 13 (n ∷ ns) all))
+        module _ (names : List (List ℕ)) where
+          read_aliases : (ns : List (List ℕ)) (rest : Rest) → length ns ≤ 8 → AllByRecursion (λ (name : List ℕ). IsTrue (is_name name)) ns
+              → reading (said prefixes ports protocols names [] None) (listed 13 (map text ns) ++ rest) ≡ reading (said prefixes ports protocols names ns None) rest
+          read_aliases [] rest few all = refl
+          read_aliases (n ∷ ns) rest few all =
+              ap (λ r. (r >>= λ x. Ok (said prefixes ports protocols names x None)) >>= λ more. reading more rest) (array_back 13 8 (name_of 13) text (n ∷ ns) few (names_back 13 (n ∷ ns) all))
 
--- all keys are numbers
-listed_unsigned : (key : ℕ) (ts : List Tree) (rest : Rest) → all_unsigned (pairs_of rest) ≡ true → all_unsigned (pairs_of (listed key ts ++ rest)) ≡ true
-listed_unsigned key [] rest is = is
-listed_unsigned key (t ∷ ts) rest is = is
+  -- all keys are numbers
+  listed_unsigned : (key : ℕ) (ts : List Tree) (rest : Rest) → all_unsigned (pairs_of rest) ≡ true → all_unsigned (pairs_of (listed key ts ++ rest)) ≡ true
+  listed_unsigned key [] rest is = is
+  listed_unsigned key (t ∷ ts) rest is = is
 
-module _ (asked : Asked) (lifetime : ℤ) (is : CanAsk asked) (lasts : IsGranted lifetime) where
-  abbrev last : Rest
-  last = field 14 (integer lifetime)
+  module _ (asked : Asked) (lifetime : ℤ) (is : CanAsk asked) (lasts : IsGranted lifetime) where
+    abbrev last : Rest
+    last = field 14 (integer lifetime)
 
-  abbrev l13 : Rest
-  l13 = listed 13 (map text asked.aliases) ++ last
+    abbrev l13 : Rest
+    l13 = listed 13 (map text asked.aliases) ++ last
 
-  abbrev l11 : Rest
-  l11 = listed 11 (map text asked.names) ++ l13
+    abbrev l11 : Rest
+    l11 = listed 11 (map text asked.names) ++ l13
 
-  abbrev l10 : Rest
-  l10 = listed 10 (map unsigned asked.protocols) ++ l11
+    abbrev l10 : Rest
+    l10 = listed 10 (map unsigned asked.protocols) ++ l11
 
-  abbrev l7 : Rest
-  l7 = listed 7 (map range_tree asked.ports) ++ l10
+    abbrev l7 : Rest
+    l7 = listed 7 (map range_tree asked.ports) ++ l10
 
-  abbrev l6 : Rest
-  l6 = listed 6 (map prefix_tree asked.prefixes) ++ l7
+    abbrev l6 : Rest
+    l6 = listed 6 (map prefix_tree asked.prefixes) ++ l7
 
-  abbrev a6 : Rest
-  a6 = listed 6 (map prefix_tree asked.prefixes)
+    abbrev a6 : Rest
+    a6 = listed 6 (map prefix_tree asked.prefixes)
 
-  abbrev a7 : Rest
-  a7 = a6 ++ listed 7 (map range_tree asked.ports)
+    abbrev a7 : Rest
+    a7 = a6 ++ listed 7 (map range_tree asked.ports)
 
-  abbrev a10 : Rest
-  a10 = a7 ++ listed 10 (map unsigned asked.protocols)
+    abbrev a10 : Rest
+    a10 = a7 ++ listed 10 (map unsigned asked.protocols)
 
-  abbrev a11 : Rest
-  a11 = a10 ++ listed 11 (map text asked.names)
+    abbrev a11 : Rest
+    a11 = a10 ++ listed 11 (map text asked.names)
 
-  in_order : asked_fields asked ++ last ≡ l6
-  in_order =
-      append_assoc a11 (listed 13 (map text asked.aliases)) last
-      ∙ append_assoc a10 (listed 11 (map text asked.names)) l13
-      ∙ append_assoc a7 (listed 10 (map unsigned asked.protocols)) l11
-      ∙ append_assoc a6 (listed 7 (map range_tree asked.ports)) l10
+    in_order : asked_fields asked ++ last ≡ l6
+    in_order =
+        append_assoc a11 (listed 13 (map text asked.aliases)) last
+        ∙ append_assoc a10 (listed 11 (map text asked.names)) l13
+        ∙ append_assoc a7 (listed 10 (map unsigned asked.protocols)) l11
+        ∙ append_assoc a6 (listed 7 (map range_tree asked.ports)) l10
 
-  unsigned_all : all_unsigned (pairs_of l6) ≡ true
-  unsigned_all =
-      listed_unsigned 6 (map prefix_tree asked.prefixes) l7 (listed_unsigned 7 (map range_tree asked.ports) l10 (listed_unsigned 10 (map unsigned asked.protocols) l11
-      (listed_unsigned 11 (map text asked.names) l13 (listed_unsigned 13 (map text asked.aliases) last refl))))
+    unsigned_all : all_unsigned (pairs_of l6) ≡ true
+    unsigned_all =
+        listed_unsigned 6 (map prefix_tree asked.prefixes) l7 (listed_unsigned 7 (map range_tree asked.ports) l10 (listed_unsigned 10 (map unsigned asked.protocols) l11
+        (listed_unsigned 11 (map text asked.names) l13 (listed_unsigned 13 (map text asked.aliases) last refl))))
 
-  read_last : reading (said asked.prefixes asked.ports asked.protocols asked.names asked.aliases None) last
-      ≡ Ok (said asked.prefixes asked.ports asked.protocols asked.names asked.aliases (Some lifetime))
-  read_last = ap (λ r. (r >>= λ x. Ok (said asked.prefixes asked.ports asked.protocols asked.names asked.aliases (Some x))) >>= λ more. Ok more) (lifetime_back lifetime lasts)
+    read_last : reading (said asked.prefixes asked.ports asked.protocols asked.names asked.aliases None) last
+        ≡ Ok (said asked.prefixes asked.ports asked.protocols asked.names asked.aliases (Some lifetime))
+    read_last = ap (λ r. (r >>= λ x. Ok (said asked.prefixes asked.ports asked.protocols asked.names asked.aliases (Some x))) >>= λ more. Ok more) (lifetime_back lifetime lasts)
 
-  read_all : reading nothing_asked l6 ≡ Ok (said asked.prefixes asked.ports asked.protocols asked.names asked.aliases (Some lifetime))
-  read_all =
-      read_prefixes asked.prefixes l7 is.few.prefixes is.prefixes
-      ∙ read_ports asked.prefixes asked.ports l10 is.few.ports is.ports
-      ∙ read_protocols asked.prefixes asked.ports asked.protocols l11 is.few.protocols is.protocols
-      ∙ read_names asked.prefixes asked.ports asked.protocols asked.names l13 is.few.names is.names
-      ∙ read_aliases asked.prefixes asked.ports asked.protocols asked.names asked.aliases last is.few.aliases is.aliases
-      ∙ read_last
+    read_all : reading nothing_asked l6 ≡ Ok (said asked.prefixes asked.ports asked.protocols asked.names asked.aliases (Some lifetime))
+    read_all =
+        read_prefixes asked.prefixes l7 is.few.prefixes is.prefixes
+        ∙ read_ports asked.prefixes asked.ports l10 is.few.ports is.ports
+        ∙ read_protocols asked.prefixes asked.ports asked.protocols l11 is.few.protocols is.protocols
+        ∙ read_names asked.prefixes asked.ports asked.protocols asked.names l13 is.few.names is.names
+        ∙ read_aliases asked.prefixes asked.ports asked.protocols asked.names asked.aliases last is.few.aliases is.aliases
+        ∙ read_last
 
-  scope_back : scope_of (map_of (asked_fields asked ++ last)) ≡ whole_scope (said asked.prefixes asked.ports asked.protocols asked.names asked.aliases (Some lifetime))
-  scope_back =
-      ap (λ xs. scope_of (map_of xs)) in_order
-      ∙ ap (λ r. r >>= λ fields. each_field scope_field nothing_asked fields >>= λ s. whole_scope s) (cond-true (all_unsigned (pairs_of l6)) (Ok (fields_in (pairs_of l6))) (Err (invalid 2)) unsigned_all)
-      ∙ ap (λ r. r >>= λ s. whole_scope s) read_all
+    scope_back : scope_of gateway (map_of (asked_fields asked ++ last)) ≡ whole_scope (said asked.prefixes asked.ports asked.protocols asked.names asked.aliases (Some lifetime))
+    scope_back =
+        ap (λ xs. scope_of gateway (map_of xs)) in_order
+        ∙ ap (λ r. r >>= λ fields. each_field (scope_field gateway) nothing_asked fields >>= λ s. whole_scope s) (cond-true (all_unsigned (pairs_of l6)) (Ok (fields_in (pairs_of l6))) (Err (invalid 2)) unsigned_all)
+        ∙ ap (λ r. r >>= λ s. whole_scope s) read_all
 
-  ended_both : (b : Bool) (x : MitigationBody) → (((if b then Ok x else Err (missing 6)) >>= λ value. ended_with value []) >>= λ value. ended_with value []) ≡ (if b then Ok x else Err (missing 6))
-  ended_both true x = refl
-  ended_both false x = refl
+    ended_both : (b : Bool) (x : MitigationBody) → (((if b then Ok x else Err (missing 6)) >>= λ value. ended_with value []) >>= λ value. ended_with value []) ≡ (if b then Ok x else Err (missing 6))
+    ended_both true x = refl
+    ended_both false x = refl
 
-  pub is_read : mitigation_of (request_tree asked lifetime) ≡ (if has_target asked then Ok (record { asked = asked; lifetime = lifetime }) else Err (missing 6))
-  is_read =
-      ap (λ r. (r >>= λ value. ended_with value []) >>= λ value. ended_with value []) scope_back
-      ∙ ended_both (has_target asked) (record { asked = asked; lifetime = lifetime })
+    pub is_read : mitigation_of gateway (request_tree asked lifetime) ≡ (if has_target asked then Ok (record { asked = asked; lifetime = lifetime; trigger = true }) else Err (missing 6))
+    is_read =
+        ap (λ r. (r >>= λ value. ended_with value []) >>= λ value. ended_with value []) scope_back
+        ∙ ended_both (has_target asked) (record { asked = asked; lifetime = lifetime; trigger = true })

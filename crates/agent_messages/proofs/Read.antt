@@ -33,7 +33,7 @@ asking_means spells number mid cuid asked lifetime named below is lasts valid =
     let body : AnswersBody (canon (request_tree asked lifetime)) (put_mitigation_with path) (asked_for cuid mid asked lifetime) = (
       Ok (request_tree asked lifetime),
       spells (request_tree asked lifetime) valid,
-      sym (ap (λ r. r >>= λ body. Ok (request.PutMitigation path body)) (is_read asked lifetime is lasts) ∙ either (has_target asked) path (record { asked = asked; lifetime = lifetime })),
+      sym (ap (λ r. r >>= λ body. Ok (request.PutMitigation path body)) (is_read false asked lifetime is lasts) ∙ either (has_target asked) path (record { asked = asked; lifetime = lifetime; trigger = true })),
     ) in
     subst (λ head. ReadsAs head (canon (request_tree asked lifetime)) (asked_for cuid mid asked lifetime)) (sym (asking_head number mid cuid asked lifetime named below)) body
 

@@ -1,5 +1,5 @@
 -- What a client may ask for.
-use Rattle.std.specs.Prelude.{ℕ, ℤ, ◌^◌, ◌<◌, ◌≤◌, List, IsTrue, Some, None, Result, Ok, Err, if◌then◌else◌}
+use Rattle.std.specs.Prelude.{true, ℕ, ℤ, ◌^◌, ◌<◌, ◌≤◌, List, IsTrue, Some, None, Result, Ok, Err, if◌then◌else◌}
 use Rattle.std.specs.List.{AllByRecursion}
 use Rattle.acl_lists.specs.declared.asked.Asked.{Asked}
 use Rattle.dots_heads.specs.declared.reject.Reject.{Reject}
@@ -29,7 +29,7 @@ pub record CanAsk (asked : Asked) : Type 0 where
 abbrev pub asked_for : List ℕ → ℕ → Asked → ℤ → Result Request Reject
 asked_for cuid mid asked lifetime =
     if has_target asked
-    then Ok (request.PutMitigation (record { cdid = None; cuid = cuid; mid = Some mid }) (record { asked = asked; lifetime = lifetime }))
+    then Ok (request.PutMitigation (record { cdid = None; cuid = cuid; mid = Some mid }) (record { asked = asked; lifetime = lifetime; trigger = true }))
     else Err (missing 6)
 
 -- and of a withdrawal

@@ -1,6 +1,6 @@
 -- What stands in each request that is read.
 use Rattle.std.proofs.Common.{◌≡◌, ℕ, ◌≤◌, zero, suc, ℤ, arith, Bool, true, false, cond, List, [], ◌∷◌, Option, None, Some, Result, Ok, Err, length, lit≤, refl, sym, subst, inl, inr}
-use Rattle.std.specs.Prelude.{if◌then◌else◌, IfOk, IfSome, IsTrue, IsSome, ok_or, ◌&&◌, ◌==◌, nat_le, nat_lt, ◌^◌}
+use Rattle.std.specs.Prelude.{if◌then◌else◌, is_some, IfOk, IfSome, IsTrue, IsSome, ok_or, ◌&&◌, ◌==◌, nat_le, nat_lt, ◌^◌}
 use Rattle.std.proofs.Math.Dec.{lt→ltb}
 use Rattle.std.proofs.lemmas.Bool.{leb-true}
 use Rattle.std.proofs.lemmas.Result.{IfOk-at_ok}
@@ -29,7 +29,7 @@ use Rattle.dots_heads.specs.Heads.{Head, refuse_critical, refuse_hop_limit, refu
 use Rattle.dots_keys.specs.Heartbeats.{heartbeat_of}
 use Rattle.dots_keys.specs.Lifetimes.{HasLifetime}
 use Rattle.dots_keys.specs.Meaning.{AnswersBody, Completes, ReadsAs, put_mitigation_with, put_config_with, put_heartbeat_with}
-use Rattle.dots_keys.specs.Mitigations.{each_item, at_most, array_under, prefix_of, range_of, protocol_of, name_of, lifetime_of, refuse_trigger, scope_key_of, take_target, scope_field, nothing_asked, has_target, with_lifetime, whole_scope, scope_of, only_item, only_scope, mitigation_of}
+use Rattle.dots_keys.specs.Mitigations.{each_item, at_most, array_under, prefix_of, range_of, protocol_of, name_of, lifetime_of, trigger_of, scope_key_of, take_target, scope_field, nothing_asked, has_target, with_lifetime, whole_scope, scope_of, only_item, only_scope, mitigation_of}
 use Rattle.dots_heads.specs.Operations.{Operation, put_mitigation, get_mitigation, delete_mitigation, put_config, get_config, delete_config, put_heartbeat, method_of, is_client_name, client_name, identifier, optional, mandatory, domain_of, mitigation_path, with_mid, mitigation_operation, config_operation, operation_of}
 use Rattle.dots_heads.specs.Options.{first_critical, value_of, values_of}
 use Rattle.dots_heads.specs.Paths.{Resource, mitigation, config, heartbeat, resource_at}
@@ -38,12 +38,12 @@ use Rattle.dots_heads.specs.Results.{◌>>=◌, invalid, missing, UnlessNoMemory
 -- ---- what a reading gives
 
 -- what holds of all that the second step gives holds of what both give
-then_ok : {A B : Type 0} (r : Result A Reject) (f : A → Result B Reject) (Q : B → Type 0) → ((x : A) → IfOk (f x) Q) → IfOk (r >>= f) Q
+pub then_ok : {A B : Type 0} (r : Result A Reject) (f : A → Result B Reject) (Q : B → Type 0) → ((x : A) → IfOk (f x) Q) → IfOk (r >>= f) Q
 then_ok (Ok x) f Q later = later x
 then_ok (Err e) f Q later = tt
 
 -- the same where the second step's rests on a fact of what the first gives
-fact_then_ok : {A B : Type 0} (r : Result A Reject) (f : A → Result B Reject) (P : A → Type 0) (Q : B → Type 0) → IfOk r P → ((x : A) → P x → IfOk (f x) Q) → IfOk (r >>= f) Q
+pub fact_then_ok : {A B : Type 0} (r : Result A Reject) (f : A → Result B Reject) (P : A → Type 0) (Q : B → Type 0) → IfOk r P → ((x : A) → P x → IfOk (f x) Q) → IfOk (r >>= f) Q
 fact_then_ok (Ok x) f P Q first later = later x first
 fact_then_ok (Err e) f P Q first later = tt
 
@@ -60,7 +60,7 @@ ended_ok : {A : Type 0} (said : A) (fields : List Field) (P : A → Type 0) → 
 ended_ok said [] P is = is
 ended_ok said (field ∷ fields) P is = tt
 
-sole_ok : {A : Type 0} (under key : ℕ) (read : Tree → Result A Reject) (P : A → Type 0) → ((tree : Tree) → IfOk (read tree) P) → (tree : Tree) → IfOk (sole_field under key read tree) P
+pub sole_ok : {A : Type 0} (under key : ℕ) (read : Tree → Result A Reject) (P : A → Type 0) → ((tree : Tree) → IfOk (read tree) P) → (tree : Tree) → IfOk (sole_field under key read tree) P
 sole_ok under key read P each tree =
     then_ok (fields_of under tree) _ P (λ fields.
     then_ok (first_field key fields) _ P (λ first.
@@ -111,48 +111,48 @@ record Says (said : Scope) : Type 0 where
   few : AreFew said.asked
   lifetime : IfSome said.lifetime IsLifetime
 
-take_ok : (key : Option ScopeKey) (said : Scope) (n : ℕ) (tree : Tree) → Says said → IfOk (take_target key said n tree) Says
-take_ok (Some scope_key.Prefixes) said n tree is = fact_then_ok (array_under 6 16 prefix_of tree) _ (λ values. length values ≤ 16) Says (array_ok 6 16 prefix_of tree)
+take_ok : (gateway : Bool) (key : Option ScopeKey) (said : Scope) (n : ℕ) (tree : Tree) → Says said → IfOk (take_target gateway key said n tree) Says
+take_ok gateway (Some scope_key.Prefixes) said n tree is = fact_then_ok (array_under 6 16 prefix_of tree) _ (λ values. length values ≤ 16) Says (array_ok 6 16 prefix_of tree)
     (λ values few. record { few = record { prefixes = few; ports = is.few.ports; protocols = is.few.protocols; names = is.few.names; aliases = is.few.aliases }; lifetime = is.lifetime })
-take_ok (Some scope_key.Ports) said n tree is = fact_then_ok (array_under 7 16 range_of tree) _ (λ values. length values ≤ 16) Says (array_ok 7 16 range_of tree)
+take_ok gateway (Some scope_key.Ports) said n tree is = fact_then_ok (array_under 7 16 range_of tree) _ (λ values. length values ≤ 16) Says (array_ok 7 16 range_of tree)
     (λ values few. record { few = record { prefixes = is.few.prefixes; ports = few; protocols = is.few.protocols; names = is.few.names; aliases = is.few.aliases }; lifetime = is.lifetime })
-take_ok (Some scope_key.Protocols) said n tree is = fact_then_ok (array_under 10 16 protocol_of tree) _ (λ values. length values ≤ 16) Says (array_ok 10 16 protocol_of tree)
+take_ok gateway (Some scope_key.Protocols) said n tree is = fact_then_ok (array_under 10 16 protocol_of tree) _ (λ values. length values ≤ 16) Says (array_ok 10 16 protocol_of tree)
     (λ values few. record { few = record { prefixes = is.few.prefixes; ports = is.few.ports; protocols = few; names = is.few.names; aliases = is.few.aliases }; lifetime = is.lifetime })
-take_ok (Some scope_key.Names) said n tree is = fact_then_ok (array_under 11 8 (name_of 11) tree) _ (λ values. length values ≤ 8) Says (array_ok 11 8 (name_of 11) tree)
+take_ok gateway (Some scope_key.Names) said n tree is = fact_then_ok (array_under 11 8 (name_of 11) tree) _ (λ values. length values ≤ 8) Says (array_ok 11 8 (name_of 11) tree)
     (λ values few. record { few = record { prefixes = is.few.prefixes; ports = is.few.ports; protocols = is.few.protocols; names = few; aliases = is.few.aliases }; lifetime = is.lifetime })
-take_ok (Some scope_key.Aliases) said n tree is = fact_then_ok (array_under 13 8 (name_of 13) tree) _ (λ values. length values ≤ 8) Says (array_ok 13 8 (name_of 13) tree)
+take_ok gateway (Some scope_key.Aliases) said n tree is = fact_then_ok (array_under 13 8 (name_of 13) tree) _ (λ values. length values ≤ 8) Says (array_ok 13 8 (name_of 13) tree)
     (λ values few. record { few = record { prefixes = is.few.prefixes; ports = is.few.ports; protocols = is.few.protocols; names = is.few.names; aliases = few }; lifetime = is.lifetime })
-take_ok (Some scope_key.Lifetime) said n tree is = fact_then_ok (lifetime_of tree) _ IsLifetime Says (lifetime_ok tree) (λ lifetime one. record { few = is.few; lifetime = one })
-take_ok (Some scope_key.Trigger) said n tree is = then_ok (refuse_trigger tree) _ Says (λ _. is)
-take_ok None said n tree is = tt
+take_ok gateway (Some scope_key.Lifetime) said n tree is = fact_then_ok (lifetime_of tree) _ IsLifetime Says (lifetime_ok tree) (λ lifetime one. record { few = is.few; lifetime = one })
+take_ok gateway (Some scope_key.Trigger) said n tree is = then_ok (trigger_of gateway tree) _ Says (λ trigger. record { few = is.few; lifetime = is.lifetime })
+take_ok gateway None said n tree is = tt
 
 -- the fields keep that
-each_ok : (said : Scope) (fields : List Field) → Says said → IfOk (each_field scope_field said fields) Says
-each_ok said [] is = is
-each_ok said (unknown n ∷ fields) is = tt
-each_ok said (known n value ∷ fields) is =
-    fact_then_ok (scope_field said n value) _ Says Says (take_ok (scope_key_of n) said n value is) (λ more. each_ok more fields)
+each_ok : (gateway : Bool) (said : Scope) (fields : List Field) → Says said → IfOk (each_field (scope_field gateway) said fields) Says
+each_ok gateway said [] is = is
+each_ok gateway said (unknown n ∷ fields) is = tt
+each_ok gateway said (known n value ∷ fields) is =
+    fact_then_ok (scope_field gateway said n value) _ Says Says (take_ok gateway (scope_key_of n) said n value is) (λ more. each_ok gateway more fields)
 
 nothing_said : Says nothing_asked
 nothing_said = record { few = record { prefixes = lit≤ tt; ports = lit≤ tt; protocols = lit≤ tt; names = lit≤ tt; aliases = lit≤ tt }; lifetime = tt }
 
-with_ok : (asked : Asked) (lifetime : Option ℤ) → IsTrue (has_target asked) → AreFew asked → IfSome lifetime IsLifetime → IfOk (with_lifetime asked lifetime) IsAskableBody
-with_ok asked None target few is = tt
-with_ok asked (Some lifetime) target few is = record { target = target; few = few; lifetime = is }
+with_ok : (asked : Asked) (trigger : Bool) (lifetime : Option ℤ) → IsTrue (has_target asked) → AreFew asked → IfSome lifetime IsLifetime → IfOk (with_lifetime asked trigger lifetime) IsAskableBody
+with_ok asked trigger None target few is = tt
+with_ok asked trigger (Some lifetime) target few is = record { target = target; few = few; lifetime = is }
 
 whole_ok : (said : Scope) → Says said → IfOk (whole_scope said) IsAskableBody
-whole_ok said is = chosen_ok (has_target said.asked) _ (Err (missing 6)) IsAskableBody (λ target. with_ok said.asked said.lifetime target is.few is.lifetime) (λ _. tt)
+whole_ok said is = chosen_ok (has_target said.asked) _ (Err (missing 6)) IsAskableBody (λ target. with_ok said.asked said.trigger said.lifetime target is.few is.lifetime) (λ _. tt)
 
-scope_ok : (tree : Tree) → IfOk (scope_of tree) IsAskableBody
-scope_ok tree =
+scope_ok : (gateway : Bool) (tree : Tree) → IfOk (scope_of gateway tree) IsAskableBody
+scope_ok gateway tree =
     then_ok (fields_of 2 tree) _ IsAskableBody (λ fields.
-    fact_then_ok (each_field scope_field nothing_asked fields) whole_scope Says IsAskableBody (each_ok nothing_asked fields nothing_said) whole_ok)
+    fact_then_ok (each_field (scope_field gateway) nothing_asked fields) whole_scope Says IsAskableBody (each_ok gateway nothing_asked fields nothing_said) whole_ok)
 
-only_ok : (tree : Tree) → IfOk (only_scope tree) IsAskableBody
-only_ok tree = then_ok (ok_or (only_item (items_in tree)) (invalid 2)) scope_of IsAskableBody scope_ok
+only_ok : (gateway : Bool) (tree : Tree) → IfOk (only_scope gateway tree) IsAskableBody
+only_ok gateway tree = then_ok (ok_or (only_item (items_in tree)) (invalid 2)) (scope_of gateway) IsAskableBody (scope_ok gateway)
 
-mitigation_ok : (tree : Tree) → IfOk (mitigation_of tree) IsAskableBody
-mitigation_ok = sole_ok 0 1 (sole_field 1 2 only_scope) IsAskableBody (sole_ok 1 2 only_scope IsAskableBody only_ok)
+mitigation_ok : (gateway : Bool) (tree : Tree) → IfOk (mitigation_of gateway tree) IsAskableBody
+mitigation_ok gateway = sole_ok 0 1 (sole_field 1 2 (only_scope gateway)) IsAskableBody (sole_ok 1 2 (only_scope gateway) IsAskableBody (only_ok gateway))
 
 -- ---- the configuration
 
@@ -241,7 +241,7 @@ body_ok payload read answer each is = rw is.2 (then_ok is.0 read IsAskable each)
 
 completes_ok : (operation : Operation) (content : Content) (observe : Observe) (payload : List ℕ) (answer : Result Request Reject) → HasParameters operation → Completes operation content observe payload answer → IfOk answer IsAskable
 completes_ok (put_mitigation path) content observe payload answer names is =
-    body_ok payload (put_mitigation_with path) answer (λ tree. fact_then_ok (mitigation_of tree) _ IsAskableBody IsAskable (mitigation_ok tree) (λ body one. (names, one))) is
+    body_ok payload (put_mitigation_with path) answer (λ tree. fact_then_ok (mitigation_of (is_some path.cdid) tree) _ IsAskableBody IsAskable (mitigation_ok (is_some path.cdid) tree) (λ body one. (names, one))) is
 completes_ok (get_mitigation path) content observe payload answer names is = rw is names
 completes_ok (delete_mitigation path) content observe payload answer names is = rw is names
 completes_ok (put_config sid) content observe payload answer names is =

@@ -2,4 +2,5 @@ pub mod Answering
 pub mod Arrays
 pub mod Ascending
 pub mod Askable
+mod Waiting
 pub mod OneMeaning

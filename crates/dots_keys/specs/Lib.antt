@@ -4,6 +4,7 @@ pub mod Fields
 pub mod Heartbeats
 pub mod Keys
 pub mod Lifetimes
+pub mod Waiting
 pub mod Askable
 pub mod Meaning
 pub mod Mitigations

@@ -1,5 +1,5 @@
 -- What a message means: a request, or the first refusal that applies.
-use Rattle.std.specs.Prelude.{◌≡◌, Bool, List, ℕ, Result, Ok, Err}
+use Rattle.std.specs.Prelude.{is_some, ◌≡◌, Bool, List, ℕ, Result, Ok, Err}
 use Rattle.cbor_profile.specs.declared.fault.CborFault.{CborFault}
 use Rattle.cbor_profile.specs.Breaking.{Refuses}
 use Rattle.cbor_profile.specs.Spelling.{Spells}
@@ -31,7 +31,7 @@ AnswersBody payload read answer = (body : Result Tree Reject) × IsBody payload 
 
 -- the requests with a body
 abbrev pub put_mitigation_with : MitigationPath → Tree → Result Request Reject
-put_mitigation_with path tree = mitigation_of tree >>= λ body. Ok (request.PutMitigation path body)
+put_mitigation_with path tree = mitigation_of (is_some path.cdid) tree >>= λ body. Ok (request.PutMitigation path body)
 
 abbrev pub put_config_with : ℕ → Tree → Result Request Reject
 put_config_with sid tree = configuration_of tree >>= λ body. Ok (request.PutConfig sid body)

@@ -97,16 +97,17 @@ range_of tree = do
   said ← each_field range_field no_ports fields
   range_with said.lower said.upper
 
--- ---- lifetime 14 in seconds, from 1 to 2^31 - 1, or -1; trigger-mitigation 45, which is true
+-- ---- lifetime 14 in seconds, from 1 to 2^31 - 1, or -1; trigger-mitigation 45, a truth value, which isn't false from a gateway
 
 abbrev pub lifetime_of : Tree → Result ℤ Reject
 lifetime_of (unsigned n) = if nat_le 1 n && nat_lt n (2 ^ 31) then Ok (pos n) else Err (invalid 14)
 lifetime_of (negative n) = if n == 0 then Ok (negsuc 0) else Err (invalid 14)
 lifetime_of _ = Err (invalid 14)
 
-abbrev pub refuse_trigger : Tree → Result (Unit {0}) Reject
-refuse_trigger (boolean true) = Ok tt
-refuse_trigger _ = Err (invalid 45)
+abbrev pub trigger_of : Bool → Tree → Result Bool Reject
+trigger_of gateway (boolean true) = Ok true
+trigger_of gateway (boolean false) = if gateway then Err (invalid 45) else Ok false
+trigger_of gateway _ = Err (invalid 45)
 
 -- ---- the scope
 
@@ -124,27 +125,27 @@ scope_key_of n =
 abbrev pub with_asked : Scope → Asked → Scope
 with_asked said asked = record said { asked = asked }
 
-abbrev pub take_target : Option ScopeKey → Scope → ℕ → Tree → Result Scope Reject
-take_target (Some scope_key.Prefixes) said n tree =
+abbrev pub take_target : Bool → Option ScopeKey → Scope → ℕ → Tree → Result Scope Reject
+take_target gateway (Some scope_key.Prefixes) said n tree =
     array_under 6 MAX_ITEMS prefix_of tree >>= λ prefixes. Ok (with_asked said (record said.asked { prefixes = prefixes }))
-take_target (Some scope_key.Ports) said n tree =
+take_target gateway (Some scope_key.Ports) said n tree =
     array_under 7 MAX_ITEMS range_of tree >>= λ ports. Ok (with_asked said (record said.asked { ports = ports }))
-take_target (Some scope_key.Protocols) said n tree =
+take_target gateway (Some scope_key.Protocols) said n tree =
     array_under 10 MAX_ITEMS protocol_of tree >>= λ protocols. Ok (with_asked said (record said.asked { protocols = protocols }))
-take_target (Some scope_key.Names) said n tree =
+take_target gateway (Some scope_key.Names) said n tree =
     array_under 11 MAX_NAMES (name_of 11) tree >>= λ names. Ok (with_asked said (record said.asked { names = names }))
-take_target (Some scope_key.Aliases) said n tree =
+take_target gateway (Some scope_key.Aliases) said n tree =
     array_under 13 MAX_NAMES (name_of 13) tree >>= λ aliases. Ok (with_asked said (record said.asked { aliases = aliases }))
-take_target (Some scope_key.Lifetime) said n tree =
+take_target gateway (Some scope_key.Lifetime) said n tree =
     lifetime_of tree >>= λ lifetime. Ok (record said { lifetime = Some lifetime })
-take_target (Some scope_key.Trigger) said n tree = refuse_trigger tree >>= λ _. Ok said
-take_target None said n tree = Err (invalid n)
+take_target gateway (Some scope_key.Trigger) said n tree = trigger_of gateway tree >>= λ trigger. Ok (record said { trigger = trigger })
+take_target gateway None said n tree = Err (invalid n)
 
-abbrev pub scope_field : Scope → ℕ → Tree → Result Scope Reject
-scope_field said n tree = take_target (scope_key_of n) said n tree
+abbrev pub scope_field : Bool → Scope → ℕ → Tree → Result Scope Reject
+scope_field gateway said n tree = take_target gateway (scope_key_of n) said n tree
 
 abbrev pub nothing_asked : Scope
-nothing_asked = record { asked = record { prefixes = []; ports = []; protocols = []; names = []; aliases = [] }; lifetime = None }
+nothing_asked = record { asked = record { prefixes = []; ports = []; protocols = []; names = []; aliases = [] }; lifetime = None; trigger = true }
 
 -- a prefix, a name or an alias; an empty array counts as absent
 abbrev pub is_empty : {A : Type 0} → List A → Bool
@@ -154,17 +155,17 @@ is_empty (x ∷ xs) = false
 abbrev pub has_target : Asked → Bool
 has_target asked = not (is_empty asked.prefixes && is_empty asked.names && is_empty asked.aliases)
 
-abbrev pub with_lifetime : Asked → Option ℤ → Result MitigationBody Reject
-with_lifetime asked None = Err (missing 14)
-with_lifetime asked (Some lifetime) = Ok (record { asked = asked; lifetime = lifetime })
+abbrev pub with_lifetime : Asked → Bool → Option ℤ → Result MitigationBody Reject
+with_lifetime asked trigger None = Err (missing 14)
+with_lifetime asked trigger (Some lifetime) = Ok (record { asked = asked; lifetime = lifetime; trigger = trigger })
 
 abbrev pub whole_scope : Scope → Result MitigationBody Reject
-whole_scope said = if has_target said.asked then with_lifetime said.asked said.lifetime else Err (missing 6)
+whole_scope said = if has_target said.asked then with_lifetime said.asked said.trigger said.lifetime else Err (missing 6)
 
-abbrev pub scope_of : Tree → Result MitigationBody Reject
-scope_of tree = do
+abbrev pub scope_of : Bool → Tree → Result MitigationBody Reject
+scope_of gateway tree = do
   fields ← fields_of 2 tree
-  said ← each_field scope_field nothing_asked fields
+  said ← each_field (scope_field gateway) nothing_asked fields
   whole_scope said
 
 -- an array of exactly one scope
@@ -172,8 +173,8 @@ abbrev pub only_item : Option Trees → Option Tree
 only_item (Some (item tree no_items)) = Some tree
 only_item _ = None
 
-abbrev pub only_scope : Tree → Result MitigationBody Reject
-only_scope tree = ok_or (only_item (items_in tree)) (invalid 2) >>= scope_of
+abbrev pub only_scope : Bool → Tree → Result MitigationBody Reject
+only_scope gateway tree = ok_or (only_item (items_in tree)) (invalid 2) >>= scope_of gateway
 
-abbrev pub mitigation_of : Tree → Result MitigationBody Reject
-mitigation_of tree = sole_field 0 1 (sole_field 1 2 only_scope) tree
+abbrev pub mitigation_of : Bool → Tree → Result MitigationBody Reject
+mitigation_of gateway tree = sole_field 0 1 (sole_field 1 2 (only_scope gateway)) tree

@@ -30,8 +30,8 @@ fn only<T>(list: &[T]) -> Option<&T>
 }
 
 /// The body in an array of exactly one scope.
-fn only_scope(alloc: Global, item: &Item) -> Result<MitigationBody, Reject>
-    ensures { Gives result (only_scope (tree_of item.now)) }
+fn only_scope(alloc: Global, gateway: bool, item: &Item) -> Result<MitigationBody, Reject>
+    ensures { Gives result (only_scope gateway (tree_of item.now)) }
 {
     let Some(items) = item.as_array() else {
         return Err(invalid(SCOPE));
@@ -39,27 +39,27 @@ fn only_scope(alloc: Global, item: &Item) -> Result<MitigationBody, Reject>
     let Some(scope) = only(items) else {
         return Err(invalid(SCOPE));
     };
-    scope_of(alloc, scope)
+    scope_of(alloc, gateway, scope)
 }
 
 /// The body in the map under `mitigation-scope`.
-fn mitigation_scope(alloc: Global, item: &Item) -> Result<MitigationBody, Reject>
-    ensures { Gives result (sole_field 1 2 only_scope (tree_of item.now)) }
+fn mitigation_scope(alloc: Global, gateway: bool, item: &Item) -> Result<MitigationBody, Reject>
+    ensures { Gives result (sole_field 1 2 (only_scope gateway) (tree_of item.now)) }
 {
     let mut fields = Fields::of(item, MITIGATION_SCOPE)?;
     let scopes = fields.first(SCOPE)?;
-    let body = only_scope(alloc, scopes)?;
+    let body = only_scope(alloc, gateway, scopes)?;
     fields.end()?;
     Ok(body)
 }
 
-/// The body of a request for a mitigation.
-pub fn mitigation_of(alloc: Global, item: &Item) -> Result<MitigationBody, Reject>
-    ensures { Gives result (mitigation_of (tree_of item.now)) }
+/// The body of a request for a mitigation, from a client or a gateway.
+pub fn mitigation_of(alloc: Global, gateway: bool, item: &Item) -> Result<MitigationBody, Reject>
+    ensures { Gives result (mitigation_of gateway (tree_of item.now)) }
 {
     let mut fields = Fields::of(item, 0)?;
     let scope = fields.first(MITIGATION_SCOPE)?;
-    let body = mitigation_scope(alloc, scope)?;
+    let body = mitigation_scope(alloc, gateway, scope)?;
     fields.end()?;
     Ok(body)
 }

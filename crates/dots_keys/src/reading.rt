@@ -7,6 +7,7 @@ ghost use Rattle.dots_heads.specs.HeadValues.{head_value};
 ghost use Rattle.dots_heads.specs.Heads.{head_of};
 ghost use Rattle.dots_keys.specs.Askable.{IsAskable};
 ghost use Rattle.dots_keys.specs.Lifetimes.{HasLifetime};
+ghost use Rattle.dots_keys.specs.Waiting.{WaitsForClient};
 ghost use Rattle.dots_keys.specs.Meaning.{IsBody, AnswersBody, ReadsAs, Means, put_mitigation_with, put_config_with, put_heartbeat_with};
 ghost use Rattle.dots_heads.specs.OperationValues.{IsNamed};
 ghost use Rattle.dots_heads.specs.Results.{Fulfils, UnlessNoMemory};
@@ -31,6 +32,8 @@ pub fn read_request(alloc: Global, message: &Message<'_>, gateway: bool) -> Resu
     // a lifetime that can be granted, a value of a configuration.
     ensures askable { IfOk result IsAskable }
     ensures lifetime { IfOk result HasLifetime }
+    // A mitigation that waits for a lost signal is asked for by a client alone.
+    ensures waits { IfOk result WaitsForClient }
     // No memory is taken before what stands before the body is found right.
     ensures memory { result ≡ Err Reject.NoMemory → IsOk (head_of message.now gateway) }
 {
@@ -71,7 +74,7 @@ fn put_mitigation(alloc: Global, path: MitigationPath, payload: &[u8]) -> Result
     ensures { UnlessNoMemory result (AnswersBody payload.now (put_mitigation_with path) result) }
 {
     let item = decode_body(alloc, payload)?;
-    let body = mitigation_of(alloc, &item)?;
+    let body = mitigation_of(alloc, path.cdid.is_some(), &item)?;
     Ok(Request::PutMitigation { path, body })
 }
 

@@ -45,6 +45,8 @@ pub struct MitigationBody {
     pub asked: Asked,
     /// The lifetime in seconds, from 1 on, or -1 for an indefinite one.
     pub lifetime: i32,
+    /// Whether it filters at once, and not only while the signal of its client is lost (`trigger-mitigation`).
+    pub trigger: bool,
 }
 
 /// What a session is to be configured with (RFC 9132, section 4.5.2). At least one of the two offers something.

@@ -4,7 +4,7 @@ ghost use Rattle.std.specs.Prelude.{◌≡◌};
 ghost use Rattle.cbor_profile.specs.ItemTrees.{tree_of};
 ghost use Rattle.dots_keys.specs.Fields.{each_field};
 ghost use Rattle.dots_keys.specs.FieldValues.{fields_left};
-ghost use Rattle.dots_keys.specs.Mitigations.{scope_key_of, scope_field, nothing_asked, whole_scope, has_target, lifetime_of, refuse_trigger, scope_of};
+ghost use Rattle.dots_keys.specs.Mitigations.{scope_key_of, scope_field, nothing_asked, whole_scope, has_target, lifetime_of, trigger_of, scope_of};
 ghost use Rattle.dots_heads.specs.Results.{Gives, Stores};
 
 use crate::fields::Fields;
@@ -45,6 +45,7 @@ pub enum ScopeKey {
 pub struct Scope {
     pub asked: Asked,
     pub lifetime: Option<i32>,
+    pub trigger: bool,
 }
 
 fn scope_key_of(key: u8) -> Option<ScopeKey>
@@ -83,12 +84,18 @@ fn lifetime_of(item: &Item) -> Result<i32, Reject>
     }
 }
 
-/// Refuses any value but true.
-fn refuse_trigger(item: &Item) -> Result<(), Reject>
-    ensures { result ≡ refuse_trigger (tree_of item.now) }
+/// A truth value, which isn't false from a gateway.
+fn trigger_of(gateway: bool, item: &Item) -> Result<bool, Reject>
+    ensures { result ≡ trigger_of gateway (tree_of item.now) }
 {
     match item {
-        Item::Bool(true) => Ok(()),
+        Item::Bool(true) => Ok(true),
+        Item::Bool(false) => {
+            if gateway {
+                return Err(invalid(TRIGGER_MITIGATION));
+            }
+            Ok(false)
+        }
         _ => Err(invalid(TRIGGER_MITIGATION)),
     }
 }
@@ -116,12 +123,19 @@ impl Scope {
                 aliases: List::new(alloc),
             },
             lifetime: None,
+            trigger: true,
         }
     }
 
     /// Adds what a field says.
-    fn take(&mut self, alloc: Global, key: u8, value: &Item) -> Result<(), Reject>
-        ensures { Stores result self.new (scope_field self.old key (tree_of value.now)) }
+    fn take(
+        &mut self,
+        alloc: Global,
+        gateway: bool,
+        key: u8,
+        value: &Item,
+    ) -> Result<(), Reject>
+        ensures { Stores result self.new (scope_field gateway self.old key (tree_of value.now)) }
     {
         match scope_key_of(key) {
             Some(ScopeKey::Prefixes) => {
@@ -148,7 +162,10 @@ impl Scope {
                 self.lifetime = Some(lifetime_of(value)?);
                 Ok(())
             }
-            Some(ScopeKey::Trigger) => refuse_trigger(value),
+            Some(ScopeKey::Trigger) => {
+                self.trigger = trigger_of(gateway, value)?;
+                Ok(())
+            }
             None => Err(invalid(key)),
         }
     }
@@ -166,26 +183,27 @@ impl Scope {
         Ok(MitigationBody {
             asked: self.asked,
             lifetime,
+            trigger: self.trigger,
         })
     }
 }
 
 /// What all fields say.
-fn each_field(alloc: Global, fields: &mut Fields<'_>) -> Result<Scope, Reject>
-    ensures { Gives result (each_field scope_field nothing_asked (fields_left fields.old)) }
+fn each_field(alloc: Global, gateway: bool, fields: &mut Fields<'_>) -> Result<Scope, Reject>
+    ensures { Gives result (each_field (scope_field gateway) nothing_asked (fields_left fields.old)) }
 {
     let mut said = Scope::new(alloc);
     while let Some((key, value)) = fields.next()? {
-        said.take(alloc, key, value)?;
+        said.take(alloc, gateway, key, value)?;
     }
     Ok(said)
 }
 
-/// The body of the request in a scope.
-pub fn scope_of(alloc: Global, item: &Item) -> Result<MitigationBody, Reject>
-    ensures { Gives result (scope_of (tree_of item.now)) }
+/// The body of the request of a client or a gateway in a scope.
+pub fn scope_of(alloc: Global, gateway: bool, item: &Item) -> Result<MitigationBody, Reject>
+    ensures { Gives result (scope_of gateway (tree_of item.now)) }
 {
     let mut fields = Fields::of(item, 2)?;
-    let said = each_field(alloc, &mut fields)?;
+    let said = each_field(alloc, gateway, &mut fields)?;
     said.whole()
 }

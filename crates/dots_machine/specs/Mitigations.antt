@@ -54,7 +54,7 @@ sent_by from = sent_for from.peer from.exchange from.domain
 -- as the rules see it; what waits for a lost signal isn't served yet, so each asks for what filters at once
 abbrev pub request_of : MitigationRequest → Request
 request_of asked =
-    record { peer = asked.from.peer; cuid = asked.from.cuid; mid = asked.mid; asked = asked.body.asked; lifetime = asked.body.lifetime; trigger = true }
+    record { peer = asked.from.peer; cuid = asked.from.cuid; mid = asked.mid; asked = asked.body.asked; lifetime = asked.body.lifetime; trigger = asked.body.trigger }
 
 -- the answer to one that can't be granted
 abbrev pub refusal : Exchange → ℕ → PutFault → Verdict

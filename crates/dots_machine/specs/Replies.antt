@@ -11,7 +11,7 @@ use Rattle.reply_bodies.specs.declared.conflict.ConflictCause.{ConflictCause}
 use Rattle.reply_bodies.specs.declared.keys.TheConstants.{MID, LIFETIME, MITIGATION_START, STATUS}
 use Rattle.reply_bodies.specs.declared.reply.Reply.TheVariants as reply
 use Rattle.reply_bodies.specs.Maps.{field, map_of, integer}
-use Rattle.reply_bodies.specs.Mitigations.{asked_fields, mitigations_with}
+use Rattle.reply_bodies.specs.Mitigations.{trigger_fields, asked_fields, mitigations_with}
 use Rattle.reply_bodies.specs.Replies.{reply_tree}
 use Rattle.conflict_rules.specs.LiveViews.{LiveView}
 use Rattle.conflict_rules.specs.declared.judging.Judged.{Judged}
@@ -44,8 +44,8 @@ conflicting exchange mid cause = with_body CONFLICT exchange (canon (reply_tree 
 abbrev pub deleted : Exchange → List ℕ
 deleted exchange = plain DELETED exchange []
 
--- Of a mitigation the client is told what was asked for and the seconds left, the start and the status, or one of these parts
--- (section 4.4.2).
+-- Of a mitigation the client is told what was asked for and the seconds left, the start and the status, or one of these parts (section 4.4.2);
+-- and, with what was asked for, that it waits for a lost signal, where it does.
 abbrev pub config_fields : Content → LiveView → List (Tree × Tree)
 config_fields State m = []
 config_fields _ m = asked_fields m.put.asked ++ field LIFETIME (integer m.left)
@@ -54,8 +54,12 @@ abbrev pub state_fields : Content → LiveView → List (Tree × Tree)
 state_fields Config m = []
 state_fields _ m = field MITIGATION_START (unsigned m.put.start) ++ field STATUS (unsigned m.status)
 
+abbrev pub trigger_part : Content → Bool → List (Tree × Tree)
+trigger_part State trigger = []
+trigger_part _ trigger = trigger_fields trigger
+
 abbrev pub mitigation_fields : Content → LiveView → Tree
-mitigation_fields content m = map_of (field MID (unsigned m.put.mid) ++ config_fields content m ++ state_fields content m)
+mitigation_fields content m = map_of (field MID (unsigned m.put.mid) ++ config_fields content m ++ state_fields content m ++ trigger_part content m.put.trigger)
 
 -- the body that shows these mitigations, in their order
 abbrev pub retrieved_body : Content → List LiveView → List ℕ

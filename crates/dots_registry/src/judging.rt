@@ -41,7 +41,7 @@ impl Registry {
             mid: path.mid.unwrap(),
             asked: &body.asked,
             lifetime: body.lifetime,
-            trigger: true,
+            trigger: body.trigger,
         };
         self.judge_request(settings, domain, &request)
     }

@@ -348,6 +348,7 @@ fn push_wanted<'a>(
         left: row.left,
         start: row.put.start,
         status: row.status,
+        trigger: row.put.trigger,
         content,
     })
 }
@@ -386,7 +387,7 @@ fn judged_by(
         mid: asked.mid,
         asked: &asked.body.asked,
         lifetime: asked.body.lifetime,
-        trigger: true,
+        trigger: asked.body.trigger,
     };
     tables.judge_request(settings, asked.from.domain, &request)
 }

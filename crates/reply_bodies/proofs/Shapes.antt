@@ -1,6 +1,6 @@
 -- The trees of replies are valid, by their parts.
 use Rattle.std.proofs.Common.{◌≡◌, ℕ, ◌^◌, ◌<◌, ◌≤◌, List, [], ◌∷◌, length, map, subst, arith, ℤ}
-use Rattle.std.specs.Prelude.{FitsSigned, Bool, IfSome}
+use Rattle.std.specs.Prelude.{FitsSigned, Bool, true, false, IfSome}
 use Rattle.std.specs.Int.{w32}
 use Rattle.acl_lists.specs.declared.asked.Asked.{Asked}
 use Rattle.cbor_profile.specs.Tree.{Tree, unsigned, negative, text, array, boolean}
@@ -13,12 +13,12 @@ use Rattle.reply_bodies.specs.declared.conflict.Conflict.{Conflict}
 use Rattle.reply_bodies.specs.declared.session.Current.{Current}
 use Rattle.reply_bodies.specs.declared.session.SessionView.{SessionView}
 use Rattle.reply_bodies.specs.Maps.{listed}
-use Rattle.reply_bodies.specs.Mitigations.{prefix_tree, range_tree, asked_fields, config_fields, config_part, state_fields, state_part, scope_of, granted_scope, mitigations_with}
+use Rattle.reply_bodies.specs.Mitigations.{prefix_tree, range_tree, asked_fields, config_fields, config_part, state_fields, state_part, trigger_fields, trigger_part, scope_of, granted_scope, mitigations_with}
 use Rattle.reply_bodies.specs.Conflicts.{status_and_cause, higher, other, collision, information, conflict_scope}
 use Rattle.reply_bodies.specs.Requests.{request_scope}
 use Rattle.reply_bodies.specs.Sessions.{decimal, number_field, decimal_field, values, configuration, session_tree, beat_tree}
 use Rattle.reply_bodies.specs.Within.{AllWithin, AreFieldsWithin}
-use Rattle.reply_bodies.proofs.Parts.{raised, valid, number_within, integer_within, array_within, fields_then, field_within, listed_within, numbered_within, map_within, sole_within}
+use Rattle.reply_bodies.proofs.Parts.{raised, valid, number_within, integer_within, array_within, fields_then, no_fields, field_within, listed_within, numbered_within, map_within, sole_within}
 
 -- ---- mitigations
 
@@ -66,10 +66,16 @@ state_within view start status =
     (field_within 2 15 15 16 _ (omega arith) (omega arith) (number_within 2 _ start))
     (field_within 2 16 16 17 _ (omega arith) (omega arith) (number_within 2 _ status))
 
-pub scope_within : (view : MitigationView) → view.mid < 2 ^ 64 → AreFieldsWithin 2 6 15 (config_part view.content view) → AreFieldsWithin 2 15 17 (state_part view.content view) → IsWithin 5 (scope_of view)
-scope_within view mid config state =
+pub trigger_within : (trigger : Bool) → AreFieldsWithin 2 17 46 (trigger_fields trigger)
+trigger_within true = no_fields 2 17 46 (omega arith)
+trigger_within false = field_within 2 17 45 46 _ (omega arith) (omega arith) (record { sound = tt; nests = omega arith })
+
+pub scope_within : (view : MitigationView) → view.mid < 2 ^ 64 → AreFieldsWithin 2 6 15 (config_part view.content view) → AreFieldsWithin 2 15 17 (state_part view.content view)
+    → AreFieldsWithin 2 17 46 (trigger_part view.content view) → IsWithin 5 (scope_of view)
+scope_within view mid config state trigger =
     let first = field_within 2 5 5 6 (unsigned view.mid) (omega arith) (omega arith) (number_within 2 view.mid mid) in
-    raised 3 5 _ (map_within 2 5 17 _ (omega arith) (fields_then 2 5 15 17 _ _ (fields_then 2 5 6 15 _ _ first config) state)) (omega arith)
+    raised 3 5 _
+    (map_within 2 5 46 _ (omega arith) (fields_then 2 5 17 46 _ _ (fields_then 2 5 15 17 _ _ (fields_then 2 5 6 15 _ _ first config) state) trigger)) (omega arith)
 
 pub granted_within : (mid : ℕ) (lifetime : ℤ) → mid < 2 ^ 64 → FitsSigned w32 lifetime → IsWithin 5 (granted_scope mid lifetime)
 granted_within mid lifetime small fits =

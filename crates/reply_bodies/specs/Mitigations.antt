@@ -1,13 +1,13 @@
 -- Mitigations as a client is told of them (RFC 9132, sections 4.4.1.3 and 4.4.2).
-use Rattle.std.specs.Prelude.{ℕ, ℤ, List, [], ◌∷◌, ◌++◌, map}
+use Rattle.std.specs.Prelude.{ℕ, ℤ, Bool, true, false, List, [], ◌∷◌, ◌++◌, map}
 use Rattle.acl_lists.specs.declared.asked.Asked.{Asked}
-use Rattle.cbor_profile.specs.Tree.{Tree, unsigned, text, array, items_of}
+use Rattle.cbor_profile.specs.Tree.{Tree, unsigned, text, array, boolean, items_of}
 use Rattle.dots_heads.specs.declared.request.Content.{Content}
 use Rattle.dots_heads.specs.declared.request.Content.TheVariants.{All, Config, State}
 use Rattle.ip_scope.specs.Ports.{Ports}
 use Rattle.ip_scope.specs.Prefix.{PrefixValue}
 use Rattle.ip_scope.specs.PrefixText.{prefix_text}
-use Rattle.reply_bodies.specs.declared.keys.TheConstants.{MITIGATION_SCOPE, SCOPE, MID, TARGET_PREFIX, TARGET_PORT_RANGE, LOWER_PORT, UPPER_PORT, TARGET_PROTOCOL, TARGET_FQDN, ALIAS_NAME, LIFETIME, MITIGATION_START, STATUS}
+use Rattle.reply_bodies.specs.declared.keys.TheConstants.{MITIGATION_SCOPE, SCOPE, MID, TARGET_PREFIX, TARGET_PORT_RANGE, LOWER_PORT, UPPER_PORT, TARGET_PROTOCOL, TARGET_FQDN, ALIAS_NAME, LIFETIME, MITIGATION_START, STATUS, TRIGGER_MITIGATION}
 use Rattle.reply_bodies.specs.declared.scope.MitigationView.{MitigationView}
 use Rattle.reply_bodies.specs.Maps.{field, listed, map_of, sole, integer}
 
@@ -54,8 +54,18 @@ state_part All view = state_fields view
 state_part Config view = []
 state_part State view = state_fields view
 
+-- that it waits for a lost signal: told with c=a and c=c, where it does
+abbrev pub trigger_fields : Bool → List (Tree × Tree)
+trigger_fields true = []
+trigger_fields false = field TRIGGER_MITIGATION (boolean false)
+
+abbrev pub trigger_part : Content → MitigationView → List (Tree × Tree)
+trigger_part All view = trigger_fields view.trigger
+trigger_part Config view = trigger_fields view.trigger
+trigger_part State view = []
+
 abbrev pub scope_of : MitigationView → Tree
-scope_of view = map_of (field MID (unsigned view.mid) ++ config_part view.content view ++ state_part view.content view)
+scope_of view = map_of (field MID (unsigned view.mid) ++ config_part view.content view ++ state_part view.content view ++ trigger_part view.content view)
 
 abbrev pub granted_tree : ℕ → ℤ → Tree
 granted_tree mid lifetime = mitigations_with (granted_scope mid lifetime ∷ [])

@@ -58,6 +58,8 @@ pub const CURRENT_VALUE_DECIMAL: u8 = 43;
 
 pub const IDLE_CONFIG: u8 = 44;
 
+pub const TRIGGER_MITIGATION: u8 = 45;
+
 pub const HEARTBEAT: u8 = 49;
 
 pub const PROBING_RATE: u8 = 50;

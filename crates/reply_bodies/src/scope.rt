@@ -4,11 +4,13 @@ ghost use Rattle.std.specs.Prelude.{◌≡◌, ◌++◌, map, IfOk, OnOk};
 ghost use Rattle.cbor_profile.specs.Valid.{IsValid};
 ghost use Rattle.cbor_profile.specs.ItemTrees.{tree_of, trees, tree_pairs};
 ghost use Rattle.cbor_profile.specs.Within.{IsWithin};
-ghost use Rattle.reply_bodies.specs.Mitigations.{granted_scope, granted_tree, config_fields, config_part, state_fields, state_part, scope_of, views_tree, mitigations_with};
+ghost use Rattle.reply_bodies.specs.Mitigations.{granted_scope, granted_tree, config_fields, config_part, state_fields, state_part, trigger_fields, trigger_part, scope_of, views_tree, mitigations_with};
 ghost use Rattle.reply_bodies.specs.Within.{AreFieldsWithin, AllWithin};
 
 use crate::fields::{array_of, integer, number_item, put, sole};
-use crate::keys::{LIFETIME, MID, MITIGATION_SCOPE, MITIGATION_START, SCOPE, STATUS};
+use crate::keys::{
+    LIFETIME, MID, MITIGATION_SCOPE, MITIGATION_START, SCOPE, STATUS, TRIGGER_MITIGATION,
+};
 use crate::targets::put_asked;
 use acl_lists::Asked;
 use cbor_profile::{Item, ItemList, PairList};
@@ -26,8 +28,11 @@ pub struct MitigationView<'a> {
     pub left: i32,
     /// When it was first accepted, in seconds.
     pub start: u64,
-    /// A number of RFC 9132, section 4.4.2: 2 where the mitigation stands, 5 where it is terminating.
+    /// A number of RFC 9132, section 4.4.2: 2 where the mitigation stands and filters, 8 where it stands and waits for a lost signal, 5 where
+    /// it is terminating.
     pub status: u8,
+    /// Whether it filters at once, and not only while the signal of its client is lost (`trigger-mitigation`).
+    pub trigger: bool,
     /// Which part of it is told.
     pub content: Content,
 }
@@ -94,6 +99,28 @@ fn put_state_part(fields: &mut PairList, view: &MitigationView<'_>) -> Result<()
     }
 }
 
+/// Puts that it waits for a lost signal, where it does.
+fn put_trigger(fields: &mut PairList, view: &MitigationView<'_>) -> Result<(), NoMemory>
+    ensures put { OnOk result (tree_pairs fields.new ≡ tree_pairs fields.old ++ trigger_fields view.now.trigger) }
+    ensures within { OnOk result (AreFieldsWithin 2 17 46 (trigger_fields view.now.trigger)) }
+{
+    if view.trigger {
+        return Ok(());
+    }
+    put(fields, TRIGGER_MITIGATION, Item::Bool(false))
+}
+
+/// The same, where it is to be told.
+fn put_trigger_part(fields: &mut PairList, view: &MitigationView<'_>) -> Result<(), NoMemory>
+    ensures put { OnOk result (tree_pairs fields.new ≡ tree_pairs fields.old ++ trigger_part view.now.content view.now) }
+    ensures within { OnOk result (AreFieldsWithin 2 17 46 (trigger_part view.now.content view.now)) }
+{
+    match view.content {
+        Content::State => Ok(()),
+        Content::All | Content::Config => put_trigger(fields, view),
+    }
+}
+
 /// A mitigation that is told.
 fn scope_of(alloc: Global, view: &MitigationView<'_>) -> Result<Item, NoMemory>
     ensures is { IfOk result (λ item. tree_of item ≡ scope_of view.now) }
@@ -103,6 +130,7 @@ fn scope_of(alloc: Global, view: &MitigationView<'_>) -> Result<Item, NoMemory>
     put(&mut fields, MID, number_item(u64::from(view.mid)))?;
     put_config_part(alloc, &mut fields, view)?;
     put_state_part(&mut fields, view)?;
+    put_trigger_part(&mut fields, view)?;
     Ok(Item::Map(fields))
 }
 

@@ -9,6 +9,6 @@ use Rattle.dots_keys.proofs.mitigation.only_scope.Goals as goal
 pub returns-in_default-only : goal.returns-in_default-only
 returns-in_default-only c =
     rw c.invalid-in_default-only.ensures (
-    ap (λ (o : Option Trees). ok_or (only_item o) (invalid 2) >>= scope_of) (sym c.in-Some.ensures)
-    ∙ ap (λ (o : Option Tree). ok_or o (invalid 2) >>= scope_of) (not_only c.in-Some.items.now c.in_default-only.ensures)
+    ap (λ (o : Option Trees). ok_or (only_item o) (invalid 2) >>= scope_of c.args.gateway) (sym c.in-Some.ensures)
+    ∙ ap (λ (o : Option Tree). ok_or o (invalid 2) >>= scope_of c.args.gateway) (not_only c.in-Some.items.now c.in_default-only.ensures)
     )

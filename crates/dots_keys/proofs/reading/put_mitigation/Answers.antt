@@ -1,4 +1,6 @@
-use Rattle.std.proofs.Common.{◌≡◌, Err}
+use Rattle.std.proofs.Common.{◌≡◌, Bool, Ok, Err, subst}
+use Rattle.dots_heads.specs.Results.{Fails}
+use Rattle.std.specs.Prelude.{is_some}
 use Rattle.std.proofs.lemmas.Result.{err_from_is_err_and}
 use Rattle.cbor_profile.specs.ItemTrees.{tree_of}
 use Rattle.dots_keys.specs.declared.request.MitigationBody.{MitigationBody}
@@ -16,14 +18,17 @@ returns-in_err-item c =
 pub returns-in_err-body : goal.returns-in_err-body
 returns-in_err-body c =
     let e = c.in_err-body.field-0.0 in
+    let gateway = is_some c.args.path.cdid in
     let tree = tree_of c.in_ok-item.item in
     let p = err_from_is_err_and c.from_residual-in_err-body.result c.from_residual-in_err-body.ensures.1 in
     rw (p.1, p.2) (
     fulfils_more e
-    (λ (is : mitigation_of tree ≡ Err e). answers_refusal c.args.payload.now mitigation_of (λ (body : MitigationBody). request.PutMitigation c.args.path body) tree e c.in_ok-item.ensures.found is)
-    (failed e (mitigation_of tree) c.in_err-body.ensures)
+    (λ (is : mitigation_of gateway tree ≡ Err e). answers_refusal c.args.payload.now (mitigation_of gateway) (λ (body : MitigationBody). request.PutMitigation c.args.path body) tree e c.in_ok-item.ensures.found is)
+    (failed e (mitigation_of gateway tree) (subst (λ (g : Bool). Fails e (mitigation_of g tree)) c.is_some.ensures c.in_err-body.ensures))
     )
 
 pub returns : goal.returns
 returns c =
-    answers_value c.args.payload.now mitigation_of (λ (body : MitigationBody). request.PutMitigation c.args.path body) (tree_of c.in_ok-item.item) c.in_ok-body.body c.in_ok-item.ensures.found c.in_ok-body.ensures
+    let gateway = is_some c.args.path.cdid in
+    answers_value c.args.payload.now (mitigation_of gateway) (λ (body : MitigationBody). request.PutMitigation c.args.path body) (tree_of c.in_ok-item.item) c.in_ok-body.body c.in_ok-item.ensures.found
+    (subst (λ (g : Bool). mitigation_of g (tree_of c.in_ok-item.item) ≡ Ok c.in_ok-body.body) c.is_some.ensures c.in_ok-body.ensures)

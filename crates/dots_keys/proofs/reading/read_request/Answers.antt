@@ -3,6 +3,7 @@ use Rattle.dots_keys.specs.Askable.{IsAskable}
 use Rattle.dots_keys.specs.Lifetimes.{HasLifetime}
 use Rattle.dots_heads.specs.HeadValues.{head_value}
 use Rattle.dots_keys.proofs.Askable.{answered_askable, askable_lifetime}
+use Rattle.dots_keys.proofs.Waiting.{answered_waits}
 use Rattle.dots_heads.proofs.WithoutMemory.{no_refusal}
 use Rattle.dots_keys.proofs.reading.read_request.Goals as goal
 
@@ -19,3 +20,6 @@ pub returns-clause-lifetime : goal.returns-clause-lifetime
 returns-clause-lifetime c =
     IfOk-weaker c.complete.result IsAskable HasLifetime askable_lifetime
     (answered_askable c.args.message.now c.args.gateway (head_value c.in_ok-head.head) c.payload.result.now c.complete.result c.in_ok-head.ensures.value c.complete.ensures)
+
+pub returns-clause-waits : goal.returns-clause-waits
+returns-clause-waits c = answered_waits (head_value c.in_ok-head.head) c.payload.result.now c.complete.result c.complete.ensures
