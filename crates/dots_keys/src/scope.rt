@@ -128,13 +128,7 @@ impl Scope {
     }
 
     /// Adds what a field says.
-    fn take(
-        &mut self,
-        alloc: Global,
-        gateway: bool,
-        key: u8,
-        value: &Item,
-    ) -> Result<(), Reject>
+    fn take(&mut self, alloc: Global, gateway: bool, key: u8, value: &Item) -> Result<(), Reject>
         ensures { Stores result self.new (scope_field gateway self.old key (tree_of value.now)) }
     {
         match scope_key_of(key) {

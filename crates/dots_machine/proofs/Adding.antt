@@ -53,16 +53,17 @@ module _ (settings : SettingsValue) (old : State) (peer : ℕ) (datagram : List 
   adds_so (verdict.Retrieves y body) decides = inl refl
   adds_so (verdict.Accept reply entry) decides = inr (entry, refl, accepts_it reply entry decides)
 
+module _ (settings : SettingsValue) (old : State) (peer : ℕ) (datagram : List ℕ) where
   module _ (are : AreBytes datagram) (sends : List OwnedOut) (new : State) where
-    accepted_so : (entry : Entry) → AcceptsDatagram settings old peer datagram entry → Answers settings old peer datagram sends new
-        → (new.history ≡ old.history ++ entry ∷ []) ⊎ SaysUnavailable peer datagram sends
-    accepted_so entry accepts a =
-        by_verdicts (one_verdict settings old peer datagram are a.decided (verdict.Accept accepts.reply entry) a.decides (by_rules accepts.known accepts.got accepts.received accepts.accepted))
+    accepted_so : (entry : Entry) (a : Answers settings old peer datagram sends new) → AcceptsDatagram settings a.met peer datagram entry
+        → (new.history ≡ a.met.history ++ entry ∷ []) ⊎ SaysUnavailable peer datagram sends
+    accepted_so entry a accepts =
+        by_verdicts (one_verdict settings a.met peer datagram are a.decided (verdict.Accept accepts.reply entry) a.decides (by_rules accepts.known accepts.got accepts.received accepts.accepted))
       where
         by_verdicts : (a.decided ≡ verdict.Accept accepts.reply entry)
             ⊎ (LacksMemory datagram (is_gateway (role_of settings peer)) a.decided ⊎ LacksMemory datagram (is_gateway (role_of settings peer)) (verdict.Accept accepts.reply entry))
-            → (new.history ≡ old.history ++ entry ∷ []) ⊎ SaysUnavailable peer datagram sends
-        by_verdicts (inl same) = inl (answer_history settings old peer datagram sends new a ∙ ap (λ v. (after v old).history) same)
+            → (new.history ≡ a.met.history ++ entry ∷ []) ⊎ SaysUnavailable peer datagram sends
+        by_verdicts (inl same) = inl (answer_history settings old peer datagram sends new a ∙ ap (λ v. (after v a.met).history) same)
         by_verdicts (inr (inl lacks)) = inr (says settings old peer datagram are sends new a lacks)
         by_verdicts (inr (inr lacks)) = absurd (cc lacks.answer)
 
@@ -174,20 +175,25 @@ module _ (settings : SettingsValue) (old : State) (at : ℕ) (new : State) where
   datagram_adds : (peer : ℕ) (datagram : List ℕ) (owed : List (State × OwnedOut)) → Step settings old (event.Datagram peer datagram) at owed new
       → DatagramAdds settings (later old at) peer datagram owed new
   datagram_adds peer datagram owed step = record {
-    added = by_history (sym (answer_history settings now peer datagram step.0 new step.2)) (adds_so settings now peer datagram step.2.decided step.2.decides);
-    accepted = λ are entry accepts. joined entry (accepted_so settings now peer datagram are step.0 new entry accepts step.2);
+    met = a.met;
+    hears = a.hears;
+    added = by_history (sym (answer_history settings now peer datagram step.0 new a)) (adds_so settings a.met peer datagram a.decided a.decides);
+    accepted = λ are entry accepts. joined entry (accepted_so settings now peer datagram are step.0 new entry a accepts);
   }
     where
       now : State
       now = later old at
 
-      by_history : {before : List Entry} → before ≡ new.history → (before ≡ old.history) ⊎ ((entry : Entry) × (before ≡ old.history ++ entry ∷ []) × AcceptsDatagram settings now peer datagram entry)
-          → (new.history ≡ old.history) ⊎ ((entry : Entry) × (new.history ≡ old.history ++ entry ∷ []) × AcceptsDatagram settings now peer datagram entry)
+      a : Answers settings now peer datagram step.0 new
+      a = step.2
+
+      by_history : {before : List Entry} → before ≡ new.history → (before ≡ a.met.history) ⊎ ((entry : Entry) × (before ≡ a.met.history ++ entry ∷ []) × AcceptsDatagram settings a.met peer datagram entry)
+          → (new.history ≡ a.met.history) ⊎ ((entry : Entry) × (new.history ≡ a.met.history ++ entry ∷ []) × AcceptsDatagram settings a.met peer datagram entry)
       by_history same (inl is) = inl (sym same ∙ is)
       by_history same (inr (entry, is, accepts)) = inr (entry, sym same ∙ is, accepts)
 
-      joined : (entry : Entry) → (new.history ≡ old.history ++ entry ∷ []) ⊎ SaysUnavailable peer datagram step.0
-          → (new.history ≡ old.history ++ entry ∷ []) ⊎ SaysUnavailable peer datagram (outs_of owed)
+      joined : (entry : Entry) → (new.history ≡ a.met.history ++ entry ∷ []) ⊎ SaysUnavailable peer datagram step.0
+          → (new.history ≡ a.met.history ++ entry ∷ []) ⊎ SaysUnavailable peer datagram (outs_of owed)
       joined entry (inl is) = inl is
       joined entry (inr said) = inr (subst (SaysUnavailable peer datagram) (sym (ap outs_of step.1 ∙ outs_back new step.0)) said)
 

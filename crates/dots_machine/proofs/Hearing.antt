@@ -1,5 +1,5 @@
--- To be heard changes neither the history nor the time, and a datagram leaves one state heard.
-use Rattle.std.proofs.Common.{◌≡◌, ℕ, Bool, true, false, List, [], ◌∷◌, ◌++◌, refl, sym, ap, ◌∙◌, subst}
+-- To be heard changes no time, and adds to the history at most that a signal is back; and a datagram leaves one state heard.
+use Rattle.std.proofs.Common.{◌≡◌, ◌⊎◌, inl, inr, ℕ, Bool, true, false, List, [], ◌∷◌, ◌++◌, refl, sym, ap, ◌∙◌, subst}
 use Rattle.std.proofs.lemmas.Bool.{false≢true}
 use Rattle.coap_message.proofs.Faults.{breaks_no_message}
 use Rattle.dots_settings.specs.Settings.{SettingsValue}
@@ -14,13 +14,21 @@ use Rattle.dots_machine.specs.Domains.{is_stranger}
 use Rattle.dots_host.specs.declared.out.OwnedOut.{OwnedOut}
 use Rattle.dots_notices.specs.Notifying.{Apart}
 use Rattle.dots_machine.proofs.Observing.{told_history, told_time, told_apart, watched_apart}
-use Rattle.dots_machine.specs.Machine.{State, watched, Answers, Ticks, hearing, Hears, by_message, unreadable, by_stranger, after}
+use Rattle.dots_machine.specs.Signals.{back_of}
+use Rattle.dots_machine.specs.Machine.{State, watched, Answers, Ticks, lapsed, hearing, Hears, by_message, unreadable, by_stranger, after}
 
 module _ (settings : SettingsValue) (peer : ℕ) (datagram : List ℕ) where
-  pub hears_history : (state met : State) → Hears settings state peer datagram met → met.history ≡ state.history
-  hears_history state met (by_message known m is spelled e) = ap (λ (state : State). state.history) e
-  hears_history state met (unreadable fault breaks e) = ap (λ (state : State). state.history) e
-  hears_history state met (by_stranger unknown e) = ap (λ (state : State). state.history) e
+  -- what it adds to the history: nothing, or that a signal is back
+  pub hears_adds : (state met : State) → Hears settings state peer datagram met
+      → (met.history ≡ state.history) ⊎ (met.history ≡ state.history ++ back_of settings state.time state.history peer)
+  hears_adds state met (by_message known m is spelled e) = inr (ap (λ (state : State). state.history) e)
+  hears_adds state met (unreadable fault breaks e) = inl (ap (λ (state : State). state.history) e)
+  hears_adds state met (by_stranger unknown e) = inl (ap (λ (state : State). state.history) e)
+
+  pub hears_lines : (state met : State) → Hears settings state peer datagram met → met.lines ≡ state.lines
+  hears_lines state met (by_message known m is spelled e) = ap (λ (state : State). state.lines) e
+  hears_lines state met (unreadable fault breaks e) = ap (λ (state : State). state.lines) e
+  hears_lines state met (by_stranger unknown e) = ap (λ (state : State). state.lines) e
 
   pub hears_observers : (state met : State) → Hears settings state peer datagram met → met.observers ≡ state.observers
   hears_observers state met (by_message known m is spelled e) = ap (λ (state : State). state.observers) e
@@ -48,13 +56,13 @@ module _ (settings : SettingsValue) (peer : ℕ) (datagram : List ℕ) where
 
   -- it is heard in any state
   pub hears_too : (state other met : State) → Hears settings state peer datagram met → (last : State) × Hears settings other peer datagram last
-  hears_too state other met (by_message known m is spelled e) = (hearing peer other, by_message known m is spelled refl)
+  hears_too state other met (by_message known m is spelled e) = (hearing settings peer other, by_message known m is spelled refl)
   hears_too state other met (unreadable fault breaks e) = (other, unreadable fault breaks refl)
   hears_too state other met (by_stranger unknown e) = (other, by_stranger unknown refl)
 
   -- who asks something is heard
   pub asked_is_heard : (gateway : Bool) (x : Exchange) (r : Request) (state met : State) → is_stranger (role_of settings peer) ≡ false → IsReceived datagram gateway (received.Asked x r)
-      → Hears settings state peer datagram met → met ≡ hearing peer state
+      → Hears settings state peer datagram met → met ≡ hearing settings peer state
   asked_is_heard gateway x r state met known got (by_message k m is spelled e) = e
   asked_is_heard gateway x r state met known got (by_stranger unknown e) = known_or_not known unknown
   asked_is_heard gateway x r state met known (unread fault b e) (unreadable f breaks same) = absurd (cc e)
@@ -89,8 +97,8 @@ module _ (settings : SettingsValue) (state : State) (peer : ℕ) (datagram : Lis
   abbrev pub left : State
   left = watched settings peer a.asked a.decided a.replies (after a.decided a.met)
 
-  pub answer_history : new.history ≡ (after a.decided state).history
-  answer_history = told_history settings left new a.notices a.notified ∙ same_history_after a.decided a.met state (hears_history settings peer datagram state a.met a.hears)
+  pub answer_history : new.history ≡ (after a.decided a.met).history
+  answer_history = told_history settings left new a.notices a.notified
 
   pub answer_time : new.time ≡ (after a.decided state).time
   answer_time = told_time settings left new a.notices a.notified ∙ same_time_after a.decided a.met state (hears_time settings peer datagram state a.met a.hears)
@@ -102,11 +110,11 @@ module _ (settings : SettingsValue) (state : State) (peer : ℕ) (datagram : Lis
 
 -- ---- what a tick leaves
 module _ (settings : SettingsValue) (state : State) (sends : List OwnedOut) (new : State) (t : Ticks settings state sends new) where
-  pub tick_history : new.history ≡ state.history
-  tick_history = ap (λ (s : State). s.history) t.beaten.1 ∙ told_history settings state t.told t.notices t.notified
+  pub tick_history : new.history ≡ (lapsed settings state).history
+  tick_history = ap (λ (s : State). s.history) t.beaten.1 ∙ told_history settings (lapsed settings state) t.told t.notices t.notified
 
   pub tick_time : new.time ≡ state.time
-  tick_time = ap (λ (s : State). s.time) t.beaten.1 ∙ told_time settings state t.told t.notices t.notified
+  tick_time = ap (λ (s : State). s.time) t.beaten.1 ∙ told_time settings (lapsed settings state) t.told t.notices t.notified
 
   pub tick_apart : Apart state.observers → Apart new.observers
-  tick_apart apart = subst Apart (sym (ap (λ (s : State). s.observers) t.beaten.1)) (told_apart settings state t.told t.notices apart t.notified)
+  tick_apart apart = subst Apart (sym (ap (λ (s : State). s.observers) t.beaten.1)) (told_apart settings (lapsed settings state) t.told t.notices apart t.notified)

@@ -79,8 +79,9 @@ module _ (settings : SettingsValue) (state : State) (peer : ℕ) (datagram : Lis
       inl (valued settings state peer got v is ∙ ap (rules_say settings (facts_in settings state) peer) (one_thing got other received also)
       ∙ sym (valued settings state peer other w at))
 
+module _ (settings : SettingsValue) (state : State) (peer : ℕ) (datagram : List ℕ) (are : AreBytes datagram) where
   -- 5.00 is answered, for want of memory
-  pub says : (sends : List OwnedOut) (new : State) (a : Answers settings state peer datagram sends new) → LacksMemory datagram gateway a.decided → SaysUnavailable peer datagram sends
+  pub says : (sends : List OwnedOut) (new : State) (a : Answers settings state peer datagram sends new) → LacksMemory datagram (is_gateway (role_of settings peer)) a.decided → SaysUnavailable peer datagram sends
   says sends new a lacks = record {
     message = lacks.message;
     spelled = lacks.spelled;
@@ -111,8 +112,13 @@ module _ (settings : SettingsValue) (state : State) (peer : ℕ) (datagram : Lis
 
   pub answered : (sends others : List OwnedOut) (new last : State) → Answers settings state peer datagram sends new → Answers settings state peer datagram others last
       → HaveOneAnswer settings (event.Datagram peer datagram) sends new others last ⊎ (SaysUnavailable peer datagram sends ⊎ SaysUnavailable peer datagram others)
-  answered sends others new last a b = by_verdicts (one_verdict a.decided b.decided a.decides b.decides)
+  answered sends others new last a b =
+      by_verdicts (one_verdict settings b.met peer datagram are a.decided b.decided
+      (subst (λ met. Decides settings met peer datagram a.decided) (hears_once settings peer datagram state a.met b.met a.hears b.hears) a.decides) b.decides)
     where
+      abbrev gateway : Bool
+      gateway = is_gateway (role_of settings peer)
+
       by_verdicts : (a.decided ≡ b.decided) ⊎ (LacksMemory datagram gateway a.decided ⊎ LacksMemory datagram gateway b.decided)
           → HaveOneAnswer settings (event.Datagram peer datagram) sends new others last ⊎ (SaysUnavailable peer datagram sends ⊎ SaysUnavailable peer datagram others)
       by_verdicts (inl same) = inl (record {

@@ -20,7 +20,7 @@ use Rattle.dots_machine.specs.declared.verdict.Verdict.TheVariants as verdict
 use Rattle.dots_machine.specs.Domains.{is_gateway}
 use Rattle.coap_replies.specs.Exchanges.{exchange_in}
 use Rattle.dots_machine.specs.Replies.{unavailable}
-use Rattle.dots_machine.specs.Machine.{State, later, Decides, by_silence, by_rules, for_want_of_memory, sends_of, after, seen_in, watched, Notified, Answers, Ticks, beating, Opens, receiving, Step, facts_in, rules_say}
+use Rattle.dots_machine.specs.Machine.{State, later, Decides, by_silence, by_rules, for_want_of_memory, sends_of, after, seen_in, watched, Notified, Answers, Ticks, lapsed, beating, Opens, receiving, Step, facts_in, rules_say}
 use Rattle.dots_machine.proofs.Verdicts.{valued}
 use Rattle.dots_machine.proofs.Hearing.{hears_once, left, left_apart, tick_apart}
 use Rattle.dots_machine.proofs.Connections.{opens_observers, opens_once}
@@ -145,6 +145,7 @@ module _ (settings : SettingsValue) (state : State) (peer : ℕ) (datagram : Lis
       by_change (inr a) (inl b) = ap (left_by asked met replies) (sym (one_change j i w v e d (sym same) b))
       by_change (inr a) (inr b) = no_change asked met replies v w a.0 b.0 a.1 b.1
 
+module _ (settings : SettingsValue) (state : State) (peer : ℕ) (datagram : List ℕ) where
   pub answered_once : (sends : List OwnedOut) (new last : State) → Apart state.observers → Answers settings state peer datagram sends new → Answers settings state peer datagram sends last → new ≡ last
   answered_once sends new last apart a b =
       told_once settings (left settings state peer datagram sends last b) new last b.notices (left_apart settings state peer datagram sends last b apart)
@@ -157,8 +158,15 @@ module _ (settings : SettingsValue) (state : State) (peer : ℕ) (datagram : Lis
       j : Option ℕ
       j = number_of settings b.asked b.met.observers
 
+      met_is : a.met ≡ b.met
+      met_is = hears_once settings peer datagram state a.met b.met a.hears b.hears
+
+      -- the one is decided where the other is
+      decides_there : Decides settings b.met peer datagram a.decided
+      decides_there = subst (λ met. Decides settings met peer datagram a.decided) met_is a.decides
+
       sizes : length a.replies ≡ length b.replies
-      sizes = ap length a.replies_are ∙ sends_size i a.decided peer ∙ one_size settings state peer datagram a.decided b.decided a.decides b.decides ∙ sym (ap length b.replies_are ∙ sends_size j b.decided peer)
+      sizes = ap length a.replies_are ∙ sends_size i a.decided peer ∙ one_size settings b.met peer datagram a.decided b.decided decides_there b.decides ∙ sym (ap length b.replies_are ∙ sends_size j b.decided peer)
 
       split : (a.replies ≡ b.replies) × (a.notices ≡ b.notices)
       split = fronts a.replies b.replies a.notices b.notices sizes (sym a.sends_are ∙ b.sends_are)
@@ -166,15 +174,12 @@ module _ (settings : SettingsValue) (state : State) (peer : ℕ) (datagram : Lis
       asked_is : a.asked ≡ b.asked
       asked_is = watches_once settings peer datagram a.asked b.asked a.watches b.watches
 
-      met_is : a.met ≡ b.met
-      met_is = hears_once settings peer datagram state a.met b.met a.hears b.hears
-
       same_left : left settings state peer datagram sends new a ≡ left settings state peer datagram sends last b
       same_left =
-          ap (λ asked. left_by asked a.met a.replies a.decided) asked_is
-          ∙ ap (λ met. left_by b.asked met a.replies a.decided) met_is
-          ∙ ap (λ replies. left_by b.asked b.met replies a.decided) split.0
-          ∙ by_replies i j b.asked b.met b.replies a.decided b.decided a.decides b.decides (sym a.replies_are ∙ split.0 ∙ b.replies_are)
+          ap (λ asked. left_by settings a.met peer datagram asked a.met a.replies a.decided) asked_is
+          ∙ ap (λ met. left_by settings b.met peer datagram b.asked met a.replies a.decided) met_is
+          ∙ ap (λ replies. left_by settings b.met peer datagram b.asked b.met replies a.decided) split.0
+          ∙ by_replies settings b.met peer datagram i j b.asked b.met b.replies a.decided b.decided decides_there b.decides (sym a.replies_are ∙ split.0 ∙ b.replies_are)
 
 ticked_once : (settings : SettingsValue) (state : State) (sends : List OwnedOut) (new last : State) → Apart state.observers → Ticks settings state sends new → Ticks settings state sends last → new ≡ last
 ticked_once settings state sends new last apart a b =
@@ -183,17 +188,20 @@ ticked_once settings state sends new last apart a b =
     beaten : State → State
     beaten told = record told { contacts = after_beats (beating settings told) told.time told.contacts }
 
+    before : State
+    before = lapsed settings state
+
     split : (a.notices ≡ b.notices) × (a.heartbeats ≡ b.heartbeats)
     split =
         border a.notices b.notices a.heartbeats b.heartbeats
-        (notices_no_beats (seen_in settings state) (bodies_at settings state.time state.history) state.observers a.notified.0 state.contacts a.notified.1 a.notices a.notified.2)
-        (notices_no_beats (seen_in settings state) (bodies_at settings state.time state.history) state.observers b.notified.0 state.contacts b.notified.1 b.notices b.notified.2)
+        (notices_no_beats (seen_in settings before) (bodies_at settings before.time before.history) before.observers a.notified.0 before.contacts a.notified.1 a.notices a.notified.2)
+        (notices_no_beats (seen_in settings before) (bodies_at settings before.time before.history) before.observers b.notified.0 before.contacts b.notified.1 b.notices b.notified.2)
         (subst AllBeats (sym a.beaten.0) (all_beats (beating settings a.told) a.told.time a.told.contacts))
         (subst AllBeats (sym b.beaten.0) (all_beats (beating settings b.told) b.told.time b.told.contacts))
         (sym a.sends_are ∙ b.sends_are)
 
     same : a.told ≡ b.told
-    same = told_once settings state a.told b.told b.notices apart (subst (λ notices. Notified settings state notices a.told) split.0 a.notified) b.notified
+    same = told_once settings before a.told b.told b.notices apart (subst (λ notices. Notified settings before notices a.told) split.0 a.notified) b.notified
 
 pub step_keeps_apart : (settings : SettingsValue) (old : State) (event : Event) (at : ℕ) (owed : List (State × OwnedOut)) (new : State) → Apart old.observers → Step settings old event at owed new → Apart new.observers
 step_keeps_apart settings old (event.Datagram peer datagram) at owed new apart step =

@@ -21,7 +21,7 @@ use Rattle.dots_machine.specs.Domains.{is_gateway, is_stranger}
 use Rattle.dots_machine.specs.Requests.{IsReceived}
 use Rattle.dots_machine.specs.MessageRepeats.{Repeats, unless_repeated, sent_for, IsRepeatOf}
 use Rattle.dots_machine.specs.Mitigations.{request_of, judged, unless_faulty, delete_answer}
-use Rattle.dots_machine.specs.Machine.{State, later, DecidesRequest, Rules, Decides, by_silence, by_rules, for_want_of_memory, sends_of, after, watched, Notified, Answers, Step}
+use Rattle.dots_machine.specs.Machine.{State, later, hearing, DecidesRequest, Rules, Decides, by_silence, by_rules, for_want_of_memory, sends_of, after, watched, Notified, Answers, Step}
 use Rattle.dots_machine.specs.Observing.{watching_of, number_of}
 use Rattle.dots_machine.specs.declared.watching.Watching.TheVariants as watching
 use Rattle.dots_machine.proofs.Observing.{asks_once}
@@ -35,6 +35,7 @@ use Rattle.dots_machine.specs.Facts.{Facts, AreFacts}
 use Rattle.dots_machine.specs.Deciding.{in_domain, with_mid, put_in, put_for, delete_in, delete_for, config_answer, put_config_for, clear_answer, delete_config_for, answer_to, asks_for}
 use Rattle.dots_machine.proofs.MessageRepeats.{one_repeated}
 use Rattle.dots_machine.proofs.Hearing.{asked_is_heard}
+use Rattle.dots_machine.proofs.Returning.{back_repeats}
 use Rattle.dots_machine.proofs.OneAnswer.{one_thing, says}
 use Rattle.dots_machine.proofs.Handlings.{by_handlings, each_weaker}
 
@@ -107,6 +108,15 @@ module _ (settings : SettingsValue) (old : State) (peer : ℕ) (datagram : List 
       asked_is : a.asked ≡ watching.Nothing
       asked_is = asks_once settings peer datagram (received.Asked x r) a.asked known got a.watches ∙ change_asks x r domain asks
 
+      met_is : a.met ≡ hearing settings peer (later old at)
+      met_is = asked_is_heard settings peer datagram (is_gateway (role_of settings peer)) x r (later old at) a.met known got a.hears
+
+      -- it is a repeat where its peer was heard, too
+      is_there : IsRepeatOf settings.limits.remembered a.met.time a.met.history (sent_for peer x domain) entry
+      is_there =
+          subst (λ (met : State). IsRepeatOf settings.limits.remembered met.time met.history (sent_for peer x domain) entry) (sym met_is)
+          (back_repeats settings (later old at) peer x domain entry is)
+
       told : a.decided ≡ verdict.Reply entry.reply → Says entry.reply
       told same = (
         a.notices,
@@ -114,16 +124,16 @@ module _ (settings : SettingsValue) (old : State) (peer : ℕ) (datagram : List 
         subst (λ from. Notified settings from a.notices new) (
             ap (λ asked. watched settings peer asked a.decided a.replies (after a.decided a.met)) asked_is
             ∙ ap (λ v. after v a.met) same
-            ∙ asked_is_heard settings peer datagram (is_gateway (role_of settings peer)) x r (later old at) a.met known got a.hears
+            ∙ met_is
             ) a.notified,
       )
 
-      by_decision : Decides settings (later old at) peer datagram a.decided → Says entry.reply ⊎ IsUnavailable (event.Datagram peer datagram) owed
+      by_decision : Decides settings a.met peer datagram a.decided → Says entry.reply ⊎ IsUnavailable (event.Datagram peer datagram) owed
       by_decision (by_silence stranger silent) = absurd (both_ways (is_stranger (role_of settings peer)) known stranger)
       by_decision (for_want_of_memory n lacks) = inr (subst (SaysUnavailable peer datagram) (sym sent) (says settings (later old at) peer datagram are step.0 new a lacks))
       by_decision (by_rules n other also rules) =
-          inl (told (request_repeated settings (later old at) peer x domain entry is a.decided r asks
-          (subst (λ got. Rules settings (later old at) peer got a.decided) (one_thing settings (later old at) peer datagram are other (received.Asked x r) also got) rules)))
+          inl (told (request_repeated settings a.met peer x domain entry is_there a.decided r asks
+          (subst (λ got. Rules settings a.met peer got a.decided) (one_thing settings a.met peer datagram are other (received.Asked x r) also got) rules)))
 
 pub handling_repeats : (settings : SettingsValue) (old : State) (handling : Handling) (new : State) → IsHandling settings old handling new → AnswersRepeats settings old handling new
 handling_repeats settings old handling new is = record {

@@ -22,7 +22,7 @@ use Rattle.dots_machine.specs.declared.received.Received.{Received}
 use Rattle.dots_machine.specs.declared.verdict.Verdict.TheVariants as verdict
 use Rattle.dots_machine.specs.Domains.{is_gateway, is_stranger}
 use Rattle.dots_machine.specs.Requests.{IsReceived}
-use Rattle.dots_machine.specs.Machine.{State, later, Rules, AnswersFront, receiving}
+use Rattle.dots_machine.specs.Machine.{State, later, Rules, Hears, lapsed, AnswersFront, receiving}
 use Rattle.dots_machine.specs.Answering.{IsHandedIn, IsUnavailable}
 use Rattle.dots_machine.specs.Handlings.{Handling, IsHandling}
 
@@ -67,16 +67,21 @@ pub record PieceAdds (settings : SettingsValue) (conn : ℕ) (old : State) (send
   pub sends_are : sends ≡ outs_of (owed_in turns) ++ notices
   pub history_is : new.history ≡ rested.history
 
--- A datagram adds at most one entry, exactly where the rules accept it, at its time, with that entry; or 5.00 was answered, for want of memory.
+-- A datagram whose peer was heard adds that its signal is back, exactly where that was lost, by `Hears`. Behind that it adds at most one entry, exactly
+-- where the rules accept it, at its time, with that entry; or 5.00 was answered, for want of memory.
 pub record DatagramAdds (settings : SettingsValue) (old : State) (peer : ℕ) (datagram : List ℕ) (owed : List (State × OwnedOut)) (new : State) : Type 0 where
-  pub added : (new.history ≡ old.history) ⊎ ((entry : Entry) × (new.history ≡ old.history ++ entry ∷ []) × AcceptsDatagram settings old peer datagram entry)
-  pub accepted : IsHandedIn (event.Datagram peer datagram) → (entry : Entry) → AcceptsDatagram settings old peer datagram entry
-      → (new.history ≡ old.history ++ entry ∷ []) ⊎ IsUnavailable (event.Datagram peer datagram) owed
+  pub met : State
+  pub hears : Hears settings old peer datagram met
+  pub added : (new.history ≡ met.history) ⊎ ((entry : Entry) × (new.history ≡ met.history ++ entry ∷ []) × AcceptsDatagram settings met peer datagram entry)
+  pub accepted : IsHandedIn (event.Datagram peer datagram) → (entry : Entry) → AcceptsDatagram settings met peer datagram entry
+      → (new.history ≡ met.history ++ entry ∷ []) ⊎ IsUnavailable (event.Datagram peer datagram) owed
 
--- what an event adds to the history: that of requests, of the signal channel or of the data channel, and nothing else adds any
+-- What an event adds to the history: that of requests, of the signal channel or of the data channel; at a tick that signals are lost; and nothing else
+-- adds any.
 abbrev pub Adds : SettingsValue → State → Event → List (State × OwnedOut) → State → Type 0
 Adds settings old (event.Datagram peer datagram) owed new = DatagramAdds settings old peer datagram owed new
 Adds settings old (event.Piece conn piece) owed new = PieceAdds settings conn (receiving conn piece old) (outs_of owed) new
+Adds settings old event.Tick owed new = new.history ≡ (lapsed settings old).history
 Adds settings old _ owed new = new.history ≡ old.history
 
 -- A handling adds to the history exactly what the rules accept, at its time.

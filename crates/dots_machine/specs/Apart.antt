@@ -16,13 +16,15 @@ use Rattle.dots_machine.specs.Requests.{IsReceived}
 use Rattle.dots_machine.specs.Verdict.{Verdict}
 use Rattle.rest_answers.specs.declared.caller.Caller.{Caller}
 use Rattle.rest_answers.specs.Turns.{caller_of}
-use Rattle.dots_machine.specs.Machine.{State, later, Decides, sends_of, after, AnswersFront, receiving}
+use Rattle.dots_machine.specs.Machine.{State, later, Hears, Decides, sends_of, after, lapsed, AnswersFront, receiving}
+use Rattle.dots_machine.specs.Parts.{heard_in}
 use Rattle.dots_machine.specs.declared.received.Received.TheVariants as received
 
--- two states of one time that have the same entries of a domain
-pub record SameFor (domain : ℕ) (one other : State) : Type 0 where
+-- two states of one time that have the same entries of a domain, and in which its clients were heard at the same times
+pub record SameFor (settings : SettingsValue) (domain : ℕ) (one other : State) : Type 0 where
   pub time : one.time ≡ other.time
   pub entries : alone domain one.history ≡ alone domain other.history
+  pub heard : heard_in settings domain one ≡ heard_in settings domain other
 
 -- for which domain a peer of this role makes a request: for mitigations, or for its session
 abbrev pub domain_of : SettingsValue → Role → Request → Option ℕ
@@ -40,9 +42,10 @@ pub data AsksFor (settings : SettingsValue) (domain : ℕ) (what : Event) : Type
       → IsReceived datagram (is_gateway (role_of settings peer)) (received.Asked exchange asked)
       → domain_of settings (role_of settings peer) asked ≡ Some domain → AsksFor settings domain what
 
--- no datagram came, and no piece of a connection
+-- no datagram came, no piece of a connection, and no tick
 abbrev pub IsNoRequest : Event → Type 0
 IsNoRequest (event.Datagram peer datagram) = ⊥
+IsNoRequest event.Tick = ⊥
 IsNoRequest (event.Piece conn piece) = ⊥
 IsNoRequest _ = ⊤
 
@@ -57,16 +60,18 @@ AsksElsewhere settings domain conn state = (caller : Caller) → caller_of setti
 abbrev pub connected_as : State → State → State
 connected_as one other = record other { lines = one.lines }
 
--- A step from one state is for another domain, and leaves the entries of this one as they were; or its datagram can be decided on from the other
+-- A step from one state is for another domain, and leaves what this one has as it was; or its datagram is heard and can be decided on from the other
 -- state in the same way, the sends begin with the replies of that verdict, whatever number Observe has, and it leaves this domain the same on both;
 -- or its piece can be answered from the other state in the same way, where that has the same connections, and it leaves this domain the same on
--- both; or neither came, and the entries are as they were. Behind the replies stand notifications, which go to observers of all domains.
+-- both; or at a tick the same signals of this domain are lost from both; or none of these came, and the entries are as they were. Behind the replies
+-- stand notifications, which go to observers of all domains.
 pub data StaysApart (settings : SettingsValue) (domain : ℕ) (old other : State) (what : Event) (at : ℕ) (sends : List OwnedOut) (new : State) : Type 0 where
   elsewhere : (another : ℕ) → another ≢ domain → AsksFor settings another what → alone domain new.history ≡ alone domain old.history
       → StaysApart settings domain old other what at sends new
-  decided_alike : (peer : ℕ) (datagram : List ℕ) (decided : Verdict) (number : Option ℕ) (notices : List OwnedOut) → what ≡ event.Datagram peer datagram
-      → Decides settings (later old at) peer datagram decided → Decides settings (later other at) peer datagram decided
-      → sends ≡ sends_of number decided peer ++ notices → SameFor domain new (after decided (later other at))
+  decided_alike : (peer : ℕ) (datagram : List ℕ) (met left : State) (decided : Verdict) (number : Option ℕ) (notices : List OwnedOut) → what ≡ event.Datagram peer datagram
+      → Hears settings (later old at) peer datagram met → Hears settings (later other at) peer datagram left
+      → Decides settings met peer datagram decided → Decides settings left peer datagram decided
+      → sends ≡ sends_of number decided peer ++ notices → SameFor settings domain new (after decided left)
       → StaysApart settings domain old other what at sends new
   piece_elsewhere : (conn : ℕ) (piece : List ℕ) → what ≡ event.Piece conn piece → AsksElsewhere settings domain conn old → alone domain new.history ≡ alone domain old.history
       → StaysApart settings domain old other what at sends new
@@ -74,6 +79,7 @@ pub data StaysApart (settings : SettingsValue) (domain : ℕ) (old other : State
       → AsksOn settings domain conn old
       → Chain (AnswersFront settings conn) (receiving conn piece (later old at)) turns rested
       → Chain (AnswersFront settings conn) (receiving conn piece (later (connected_as old other) at)) others left
-      → outs_of (owed_in turns) ≡ outs_of (owed_in others) → sends ≡ outs_of (owed_in turns) ++ notices → SameFor domain new left
+      → outs_of (owed_in turns) ≡ outs_of (owed_in others) → sends ≡ outs_of (owed_in turns) ++ notices → SameFor settings domain new left
       → StaysApart settings domain old other what at sends new
+  lapsed_alike : what ≡ event.Tick → SameFor settings domain new (lapsed settings (later other at)) → StaysApart settings domain old other what at sends new
   without_request : IsNoRequest what → alone domain new.history ≡ alone domain old.history → StaysApart settings domain old other what at sends new

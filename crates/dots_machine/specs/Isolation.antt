@@ -1,5 +1,5 @@
 -- What becomes of a domain over a whole run.
-use Rattle.std.specs.Prelude.{◌≡◌, ◌≢◌, ◌⊎◌, ℕ, List, [], ◌∷◌, ◌++◌, Option, Some, Result}
+use Rattle.std.specs.Prelude.{◌≡◌, ◌≢◌, ◌⊎◌, ℕ, List, [], ◌∷◌, ◌++◌, map, Option, Some, Result}
 use Rattle.dots_host.specs.declared.event.Event.{Event}
 use Rattle.dots_host.specs.declared.event.Event.TheVariants as event
 use Rattle.dots_host.specs.declared.out.OwnedOut.{OwnedOut}
@@ -8,7 +8,6 @@ use Rattle.dots_host.specs.Runs.{Turn, Chain, owed_in, outs_of}
 use Rattle.dots_settings.specs.Settings.{SettingsValue}
 use Rattle.dots_settings.specs.Lookups.{role_of}
 use Rattle.dots_history.specs.declared.entry.Entry.{Entry}
-use Rattle.dots_history.specs.Histories.{alone}
 use Rattle.stream_table.specs.Lines.{Line, line_of}
 use Rattle.http_cut.specs.declared.fault.HttpFault.{HttpFault}
 use Rattle.http_cut.specs.Requests.{Request as HttpRequest, takes, refuses, IsCut}
@@ -32,6 +31,11 @@ use Rattle.dots_machine.specs.Apart.{domain_of, AsksFor}
 use Rattle.dots_machine.specs.Answering.{SaysUnavailable}
 use Rattle.dots_machine.specs.Adding.{SaysFailed}
 use Rattle.dots_machine.specs.Handlings.{Handling, IsHandling}
+use Rattle.dots_machine.specs.Signals.{own_domain}
+use Rattle.dots_machine.specs.Parts.{Part, part_of, part_heard, part_lapsed, part_restarted}
+use Rattle.coap_message.specs.Message.{CoapMessage, IsMessage, spelling}
+use Rattle.coap_message.specs.declared.fault.CoapFault.{CoapFault}
+use Rattle.coap_message.specs.Breaks.{Breaks}
 
 -- What a request asks, with what a reply takes from it: of the signal channel, or of the data channel over a connection.
 pub data Asking : Type 0 where
@@ -117,14 +121,38 @@ TakesUpAll settings domain old handling new (event.Piece conn piece) requests = 
 TakesUpAll settings domain old handling new _ requests =
     ((taken : TakenUp) × (requests ≡ taken ∷ []) × TakesUp settings domain handling new taken) ⊎ ((requests ≡ []) × PassesBy settings domain handling)
 
--- The handlings lead from the one state to the other, and the requests for the domain that they take up are these, in order, each with the time
--- that the whole run gave it.
-abbrev pub HasRequests : SettingsValue → ℕ → State → List Handling → List TakenUp → State → Type 0
-HasRequests settings domain old [] requests new = (requests ≡ []) × (new ≡ old)
-HasRequests settings domain old (handling ∷ handlings) requests new =
+-- ---- the turns of a domain
+
+-- What a run has for the domain, one after the other: a message of one of its clients could be read, a request for it was taken up, a tick came at
+-- which each of its clients has a turn, or the machine restarted; with the time that the whole run gave it.
+pub data DomainTurn : Type 0 where
+  hears : (time peer : ℕ) → DomainTurn
+  asks : (taken : TakenUp) → DomainTurn
+  ticks : (time : ℕ) → DomainTurn
+  restarts : DomainTurn
+
+-- a client of the domain is heard by a message, and nobody else of it is
+pub data IsHeard (settings : SettingsValue) (domain time peer : ℕ) (datagram : List ℕ) (turns : List DomainTurn) : Type 0 where
+  by_message : own_domain settings peer ≡ Some domain → (message : CoapMessage) → IsMessage message → datagram ≡ spelling message → turns ≡ hears time peer ∷ []
+      → IsHeard settings domain time peer datagram turns
+  unreadable : (fault : CoapFault) → Breaks datagram fault → turns ≡ [] → IsHeard settings domain time peer datagram turns
+  of_another : own_domain settings peer ≢ Some domain → turns ≡ [] → IsHeard settings domain time peer datagram turns
+
+-- what comes before the requests of a handling
+abbrev pub SignalsFirst : SettingsValue → ℕ → State → Event → List DomainTurn → Type 0
+SignalsFirst settings domain new (event.Datagram peer datagram) turns = IsHeard settings domain new.time peer datagram turns
+SignalsFirst settings domain new event.Tick turns = turns ≡ ticks new.time ∷ []
+SignalsFirst settings domain new event.Restart turns = turns ≡ restarts ∷ []
+SignalsFirst settings domain new _ turns = turns ≡ []
+
+-- The handlings lead from the one state to the other, and the turns of the domain in them are these, in order.
+abbrev pub HasTurns : SettingsValue → ℕ → State → List Handling → List DomainTurn → State → Type 0
+HasTurns settings domain old [] turns new = (turns ≡ []) × (new ≡ old)
+HasTurns settings domain old (handling ∷ handlings) turns new =
     (between : State) × IsHandling settings old handling between
-    × (first : List TakenUp) × (rest : List TakenUp) × (requests ≡ first ++ rest) × TakesUpAll settings domain old handling between handling.what first
-    × HasRequests settings domain between handlings rest new
+    × (signals : List DomainTurn) × (requests : List TakenUp) × (rest : List DomainTurn) × (turns ≡ signals ++ (map asks requests ++ rest))
+    × SignalsFirst settings domain between handling.what signals × TakesUpAll settings domain old handling between handling.what requests
+    × HasTurns settings domain between handlings rest new
 
 -- what a verdict adds to the history
 abbrev pub entries_of : Verdict → List Entry
@@ -142,16 +170,23 @@ AnsweredBy settings domain before time peer (by_http conn message) replies accep
     × (answered ≡ http_answer settings time before (record { peer = peer; domain = domain }) message.close read)
     × (replies ≡ owned.Conn conn (reply_in answered) ∷ closing conn message.close) × (accepted ≡ entries_in answered)
 
--- The requests make the later entries of the earlier ones: each is decided by the entries that those before it left, at its time; it was
--- answered so; and what was accepted is added.
-abbrev pub Make : SettingsValue → ℕ → List Entry → List TakenUp → List Entry → Type 0
-Make settings domain before [] after = after ≡ before
-Make settings domain before (taken ∷ rest) after =
-    (accepted : List Entry) × AnsweredBy settings domain before taken.time taken.peer taken.asking taken.replies accepted
-    × Make settings domain (before ++ accepted) rest after
+-- what a turn makes of what the domain has: who is heard is heard, and its signal back; a request is decided by the entries that there are, at its time,
+-- it was answered so, and what was accepted is added; at a tick signals are lost; and at a restart the entries stay
+abbrev pub TurnMakes : SettingsValue → ℕ → Part → DomainTurn → Part → Type 0
+TurnMakes settings domain before (hears time peer) after = after ≡ part_heard settings time peer before
+TurnMakes settings domain before (asks taken) after =
+    (accepted : List Entry) × AnsweredBy settings domain before.entries taken.time taken.peer taken.asking taken.replies accepted
+    × (after ≡ record before { entries = before.entries ++ accepted })
+TurnMakes settings domain before (ticks time) after = after ≡ part_lapsed settings time before
+TurnMakes settings domain before restarts after = after ≡ part_restarted settings domain before
 
--- The entries of the domain are what its own requests make, and each of these was answered by the domain's entries alone.
+-- the turns, one after the other, make the later of the earlier
+abbrev pub Make : SettingsValue → ℕ → Part → List DomainTurn → Part → Type 0
+Make settings domain before [] after = after ≡ before
+Make settings domain before (turn ∷ turns) after = (between : Part) × TurnMakes settings domain before turn between × Make settings domain between turns after
+
+-- What the domain has is what its own turns make, and each of its requests was answered by the domain's entries alone.
 pub record IsIsolated (settings : SettingsValue) (start : State) (handlings : List Handling) (end : State) (domain : ℕ) : Type 0 where
-  pub requests : List TakenUp
-  pub are : HasRequests settings domain start handlings requests end
-  pub make : Make settings domain (alone domain start.history) requests (alone domain end.history)
+  pub turns : List DomainTurn
+  pub are : HasTurns settings domain start handlings turns end
+  pub make : Make settings domain (part_of settings domain start) turns (part_of settings domain end)

@@ -4,11 +4,13 @@ pub mod Replies
 pub mod Verdict
 pub mod MessageRepeats
 pub mod Sessions
+pub mod Signals
 pub mod Facts
 pub mod Mitigations
 pub mod Deciding
 pub mod Observing
 pub mod Machine
+pub mod Parts
 pub mod RepeatRule
 pub mod Apart
 pub mod Answering

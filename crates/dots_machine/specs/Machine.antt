@@ -1,5 +1,5 @@
 -- The machine: its state, what it decides on a datagram, and a step.
-use Rattle.std.specs.Prelude.{◌≡◌, ℕ, Bool, true, false, max, List, [], ◌∷◌, ◌++◌, map, flat_map, None, Option, Result, Ok, Err, IsOk}
+use Rattle.std.specs.Prelude.{◌≡◌, ◌≢◌, ◌⊎◌, ℕ, Bool, true, false, max, List, [], ◌∷◌, ◌++◌, map, flat_map, None, Option, Result, Ok, Err, IsOk}
 use Rattle.dots_host.specs.declared.event.Event.{Event}
 use Rattle.dots_host.specs.declared.event.Event.TheVariants as event
 use Rattle.dots_host.specs.declared.out.OwnedOut.{OwnedOut}
@@ -43,6 +43,7 @@ use Rattle.dots_machine.specs.Replies.{unavailable, showing}
 use Rattle.dots_machine.specs.declared.watching.Watching.{Watching}
 use Rattle.dots_machine.specs.Observing.{Watches, seen_at, bodies_at, number_of, observing}
 use Rattle.dots_machine.specs.Sessions.{beating_at}
+use Rattle.dots_machine.specs.Signals.{back_of, last_heard, history_lapsed, rows_lapsed}
 use Rattle.dots_machine.specs.Facts.{Facts, AreFacts, facts_of}
 use Rattle.dots_machine.specs.Deciding.{answer_to}
 
@@ -145,14 +146,17 @@ abbrev pub after : Verdict → State → State
 after (verdict.Accept reply entry) state = with_entry state entry
 after _ state = state
 
--- the peer is heard now, and a session with it begins where there is none
-abbrev pub hearing : ℕ → State → State
-hearing peer state = record state { contacts = heard_from peer state.time state.contacts }
+-- The peer is heard now, and a session with it begins where there is none; and a signal of it that was lost is back.
+abbrev pub hearing : SettingsValue → ℕ → State → State
+hearing settings peer state = record state {
+  history = state.history ++ back_of settings state.time state.history peer;
+  contacts = heard_from peer state.time state.contacts;
+}
 
 -- A client or a gateway is heard by each message of it, whatever that is answered; what can't be read isn't heard, nor is a stranger (RFC 9132,
 -- section 4.7).
 pub data Hears (settings : SettingsValue) (state : State) (peer : ℕ) (datagram : List ℕ) (new : State) : Type 0 where
-  by_message : is_stranger (role_of settings peer) ≡ false → (message : CoapMessage) → IsMessage message → datagram ≡ spelling message → new ≡ hearing peer state
+  by_message : is_stranger (role_of settings peer) ≡ false → (message : CoapMessage) → IsMessage message → datagram ≡ spelling message → new ≡ hearing settings peer state
       → Hears settings state peer datagram new
   unreadable : (fault : CoapFault) → Breaks datagram fault → new ≡ state → Hears settings state peer datagram new
   by_stranger : is_stranger (role_of settings peer) ≡ true → new ≡ state → Hears settings state peer datagram new
@@ -176,12 +180,12 @@ Notified settings state sends new =
     × Notifies (seen_in settings state) (bodies_at settings state.time state.history) state.observers state.contacts sends observers contacts
     × (new ≡ record state { observers = observers; contacts = contacts })
 
--- A datagram is decided on, its peer is heard, and the verdict is carried out; then the observers that are due are told.
+-- The peer of a datagram is heard, and then the datagram is decided on, and the verdict is carried out; then the observers that are due are told.
 pub record Answers (settings : SettingsValue) (state : State) (peer : ℕ) (datagram : List ℕ) (sends : List OwnedOut) (new : State) : Type 0 where
-  pub decided : Verdict
-  pub decides : Decides settings state peer datagram decided
   pub met : State
   pub hears : Hears settings state peer datagram met
+  pub decided : Verdict
+  pub decides : Decides settings met peer datagram decided
   pub asked : Watching
   pub watches : Watches settings peer datagram asked
   pub replies : List OwnedOut
@@ -200,11 +204,18 @@ Beats settings state sends new =
     (sends ≡ beats (beating settings state) state.time state.contacts)
     × (new ≡ record state { contacts = after_beats (beating settings state) state.time state.contacts })
 
--- at a tick the observers that are due are told, and then the heartbeats are sent
+-- Each peer has had its turn: the signals of watched clients that are silent are lost, and the sessions of silent peers are forgotten.
+abbrev pub lapsed : SettingsValue → State → State
+lapsed settings state = record state {
+  history = history_lapsed settings state.time state.history (map last_heard state.contacts);
+  contacts = rows_lapsed settings state.time state.history state.contacts;
+}
+
+-- at a tick signals are lost, the observers that are due are told, and then the heartbeats are sent
 pub record Ticks (settings : SettingsValue) (state : State) (sends : List OwnedOut) (new : State) : Type 0 where
   pub notices : List OwnedOut
   pub told : State
-  pub notified : Notified settings state notices told
+  pub notified : Notified settings (lapsed settings state) notices told
   pub heartbeats : List OwnedOut
   pub beaten : Beats settings told heartbeats new
   pub sends_are : sends ≡ notices ++ heartbeats
@@ -272,11 +283,16 @@ Step settings old event.Tick at owed new = in_one_turn (λ sends. Ticks settings
 Step settings old (event.Piece conn piece) at owed new = in_turns (λ turns. Takes settings conn (receiving conn piece (later old at)) turns new) owed
 
 -- In the middle of an event the disk failed. These turns of the event were carried out, and the one after them was being written, which has an
--- entry. What comes behind it in the event isn't taken up. An event that writes nothing can't be cut so.
+-- entry, or more. What comes behind it in the event isn't taken up. An event that writes nothing can't be cut so. A datagram is cut as it is kept
+-- that the signal of its peer is back, or as what it asks is; a tick is cut as signals are lost.
 abbrev pub StepInto : SettingsValue → State → Event → ℕ → List (Turn State) → Turn State → Type 0
 StepInto settings old (event.Datagram peer datagram) at turns last =
-    (turns ≡ []) × (reply : List ℕ) × (entry : Entry) × Decides settings (later old at) peer datagram (verdict.Accept reply entry)
-    × (met : State) × Hears settings (later old at) peer datagram met × (last ≡ (record { sends = owned.To peer reply ∷ []; left = with_entry met entry }))
+    (turns ≡ []) × (met : State) × Hears settings (later old at) peer datagram met
+    × (((met.history ≢ old.history) × (last ≡ (record { sends = []; left = met })))
+    ⊎ ((reply : List ℕ) × (entry : Entry) × Decides settings met peer datagram (verdict.Accept reply entry)
+    × (last ≡ (record { sends = owned.To peer reply ∷ []; left = with_entry met entry }))))
+StepInto settings old event.Tick at turns last =
+    (turns ≡ []) × ((lapsed settings (later old at)).history ≢ old.history) × (last ≡ (record { sends = []; left = lapsed settings (later old at) }))
 StepInto settings old (event.Piece conn piece) at turns last =
     (between : State) × Chain (AnswersFront settings conn) (receiving conn piece (later old at)) turns between
     × AnswersFront settings conn between last.sends last.left × (entry : Entry) × (last.left.history ≡ between.history ++ entry ∷ [])

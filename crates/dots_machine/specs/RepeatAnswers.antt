@@ -17,10 +17,11 @@ use Rattle.dots_machine.specs.RepeatRule.{AsksToChange}
 use Rattle.dots_machine.specs.Machine.{State, later, hearing, Notified}
 use Rattle.dots_machine.specs.Handlings.{Handling, IsHandling}
 
--- The reply was sent again, and nothing was added: its peer was heard, and then the observers that are due were told.
+-- The reply was sent again, and nothing was added but that the signal of its peer is back, where it was lost: the peer was heard, and then the
+-- observers that are due were told.
 abbrev pub IsRepeated : SettingsValue → State → ℕ → List ℕ → ℕ → List OwnedOut → State → Type 0
 IsRepeated settings old peer reply at sends new =
-    (notices : List OwnedOut) × (sends ≡ owned.To peer reply ∷ notices) × Notified settings (hearing peer (later old at)) notices new
+    (notices : List OwnedOut) × (sends ≡ owned.To peer reply ∷ notices) × Notified settings (hearing settings peer (later old at)) notices new
 
 -- A handling for a repeat that asks for a change gives the bytes that answered the message, and adds nothing; or 5.00 is answered, for want of memory.
 pub record AnswersRepeats (settings : SettingsValue) (old : State) (handling : Handling) (new : State) : Type 0 where

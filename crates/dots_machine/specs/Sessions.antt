@@ -1,5 +1,7 @@
 -- What a peer has configured for its session, and what its heartbeats go by (RFC 9132, sections 4.5 and 4.7).
 use Rattle.std.specs.Prelude.{ℕ, Bool, true, false, ◌==◌, List, Option, Some, None, option_map, option_and_then}
+use Rattle.dots_settings.specs.declared.peer.Role.{Role}
+use Rattle.dots_settings.specs.declared.peer.Role.TheVariants as role
 use Rattle.dots_settings.specs.Settings.{SettingsValue}
 use Rattle.dots_settings.specs.Lookups.{role_of}
 use Rattle.dots_history.specs.declared.config.Config.{Config}
@@ -65,5 +67,11 @@ beat_of values = (values.interval, values.missing)
 abbrev pub configured_by : SettingsValue → List Entry → ℕ → Option Configured
 configured_by settings history peer = option_and_then (λ domain. configured_in history domain peer) (config_domain (role_of settings peer))
 
+-- what says of a peer whether a mitigation of it filters: of a client the entries of its domain alone
+abbrev pub entries_for : Role → List Entry → List Entry
+entries_for (role.Client domain) history = alone domain history
+entries_for _ history = history
+
 abbrev pub beating_at : SettingsValue → ℕ → List Entry → Beating
-beating_at settings t history peer = beat_of (values_in_force (is_mitigated t history peer) (config_in (configured_by settings history peer)))
+beating_at settings t history peer =
+    beat_of (values_in_force (is_mitigated t (entries_for (role_of settings peer) history) peer) (config_in (configured_by settings history peer)))

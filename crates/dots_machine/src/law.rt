@@ -69,8 +69,8 @@ pub fn one_answer()
 /// the replies stand notifications, and at a tick heartbeats, which go to peers of all domains. And the same rows of mitigations filter for it in both.
 pub fn domains_stay_apart()
     ensures step { (settings : SettingsValue) (domain : ℕ) (old other : State) (event : Event) (at : ℕ) (owed : List (State × OwnedOut)) (new : State)
-        → SameFor domain old other → Step settings old event at owed new → StaysApart settings domain old other event at (outs_of owed) new }
-    ensures rows { (domain : ℕ) (one other : State) → SameFor domain one other
+        → SameFor settings domain old other → Step settings old event at owed new → StaysApart settings domain old other event at (outs_of owed) new }
+    ensures rows { (settings : SettingsValue) (domain : ℕ) (one other : State) → SameFor settings domain one other
         → filter (λ row. row.domain == domain) (plain_rows one.time one.history) ≡ filter (λ row. row.domain == domain) (plain_rows other.time other.history) }
 {}
 
