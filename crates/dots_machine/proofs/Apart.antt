@@ -1,5 +1,5 @@
 -- What becomes of a domain depends on its own entries alone.
-use Rattle.std.proofs.Common.{◌≡◌, ◌≢◌, ◌⊎◌, ◌==◌, ℕ, Bool, true, false, cond, List, [], ◌∷◌, ◌++◌, max, Option, Some, None, inl, inr, refl, sym, ap, ◌∙◌, subst, arith, append-nil}
+use Rattle.std.proofs.Common.{◌≡◌, ◌≢◌, ◌⊎◌, ◌==◌, ℕ, Bool, true, false, cond, List, [], ◌∷◌, ◌++◌, max, Option, Some, None, inl, inr, refl, sym, ap, ◌∙◌, subst, arith, append-nil, map, filter}
 use Rattle.std.proofs.lemmas.Bool.{both_ways}
 use Rattle.std.proofs.lemmas.Bool.Decides.{nat_tests}
 use Rattle.std.proofs.lemmas.Option.{none-some, same_Some}
@@ -8,7 +8,7 @@ use Rattle.std.proofs.lemmas.List.Elements.{filter-append}
 use Rattle.dots_host.specs.declared.event.Event.{Event}
 use Rattle.dots_host.specs.declared.event.Event.TheVariants as event
 use Rattle.dots_host.specs.declared.out.OwnedOut.{OwnedOut}
-use Rattle.dots_host.specs.Runs.{outs_of}
+use Rattle.dots_host.specs.Runs.{outs_of, Turn, Chain}
 use Rattle.dots_host.proofs.RunLemmas.{outs_back}
 use Rattle.dots_settings.specs.Settings.{SettingsValue}
 use Rattle.dots_settings.specs.Lookups.{role_of, prefixes_of}
@@ -33,8 +33,8 @@ use Rattle.dots_machine.specs.Mitigations.{sent_by, request_of, judged, unless_f
 use Rattle.dots_machine.specs.Observing.{number_of}
 use Rattle.rest_answers.specs.declared.caller.Caller.{Caller}
 use Rattle.rest_answers.specs.Turns.{caller_of}
-use Rattle.dots_machine.specs.Machine.{State, later, DecidesRequest, Rules, Decides, by_silence, by_rules, for_want_of_memory, after, Answers, receiving, Takes, Step, facts_in}
-use Rattle.dots_machine.specs.Apart.{SameFor, domain_of, AsksFor, by_datagram, AsksOn, AsksElsewhere, connected_as, StaysApart, elsewhere, decided_alike, piece_elsewhere, answered_alike, without_request}
+use Rattle.dots_machine.specs.Machine.{State, later, DecidesRequest, Rules, Decides, by_silence, by_rules, for_want_of_memory, after, Answers, receiving, Takes, Step, facts_in, hearing, lapsed, watched, Hears, by_message, unreadable, by_stranger, AnswersFront}
+use Rattle.dots_machine.specs.Apart.{SameFor, domain_of, AsksFor, by_datagram, AsksOn, AsksElsewhere, connected_as, StaysApart, elsewhere, decided_alike, piece_elsewhere, answered_alike, without_request, HaveOnePart, lapsed_alike}
 use Rattle.dots_laws.specs.Held.{config_of}
 use Rattle.dots_keys.specs.declared.request.ConfigBody.{ConfigBody}
 use Rattle.session_core.specs.Negotiating.{negotiated}
@@ -42,12 +42,17 @@ use Rattle.dots_machine.specs.Sessions.{sid_of, is_held}
 use Rattle.dots_machine.specs.Facts.{Facts, stands_as, facts_of}
 use Rattle.dots_machine.specs.Deciding.{in_domain, with_mid, put_in, put_for, delete_in, delete_for, get_for, config_answer, put_config_for, clear_answer, delete_config_for, config_view, get_config_for, answer_to, asks_for}
 use Rattle.dots_machine.proofs.Verdicts.{request_valued, request_there, ruled}
-use Rattle.dots_machine.proofs.Hearing.{answer_history, answer_time, tick_history}
+use Rattle.dots_machine.proofs.Hearing.{answer_history, answer_time, tick_history, tick_time}
 use Rattle.dots_machine.proofs.Connections.{opens_history}
 use Rattle.dots_machine.proofs.Observing.{told_history, told_time}
 use Rattle.dots_machine.proofs.Fronts.{takes_outs}
 use Rattle.dots_machine.proofs.FrontsApart.{on_received, elsewhere_received, fronts_elsewhere, fronts_alike}
 use Rattle.dots_machine.proofs.Outcomes.{AcceptsWell, puts_accept, deletes_accept, gets_accept, put_configs_accept, delete_configs_accept, get_configs_accept}
+use Rattle.dots_machine.specs.Parts.{Part, is_domain, is_client_in, heard_in, part_of, part_heard, part_lapsed}
+use Rattle.dots_settings.specs.declared.peer.Role.{Role}
+use Rattle.dots_settings.specs.declared.peer.Role.TheVariants as role
+use Rattle.dots_machine.specs.Signals.{domain_of_client, own_domain, last_heard}
+use Rattle.dots_machine.proofs.Parting.{own_or_not, is_own_domain, part_is, hearing_own, hearing_other, lapsed_part, told_part, tick_part}
 
 -- whatever is carried out on both leaves the domain the same
 same_after : (domain : ℕ) (one other : State) → SameFor domain one other → (v : Verdict) → SameFor domain (after v one) (after v other)
@@ -225,32 +230,124 @@ module _ (settings : SettingsValue) where
               inl (another, there, by_datagram peer datagram x r refl got found, ap (λ v. alone domain (after v one).history) (request_valued settings one peer x r decided is) ∙ none)
           joined (inr alike) = inr (by_rules n (received.Asked x r) got (there alike))
 
-  module _ (domain : ℕ) (old other : State) (same : SameFor domain old other) (at : ℕ) (new : State) where
-    moved : SameFor domain (later old at) (later other at)
-    moved = record { time = ap (λ time. max at time) same.time; entries = same.entries }
+  -- ---- who is heard
+
+  module _ (domain : ℕ) where
+    one_part_of : (one other : State) → one.time ≡ other.time → part_of settings domain one ≡ part_of settings domain other → HaveOnePart settings domain one other
+    one_part_of one other time same = record {
+      same = record { time = time; entries = ap (λ (part : Part). part.entries) same };
+      heard = ap (λ (part : Part). part.heard) same;
+    }
+
+    parts_of : (one other : State) → HaveOnePart settings domain one other → part_of settings domain one ≡ part_of settings domain other
+    parts_of one other same = part_is settings domain _ _ _ _ same.same.entries same.heard
+
+    -- a client of the domain asks for it alone
+    asks_elsewhere : (who : Role) (r : Request) (another : ℕ) → domain_of settings who r ≡ Some another → another ≢ domain → domain_of_client who ≢ Some domain
+    asks_elsewhere (role.Client d) (request.PutHeartbeat heard) another asks out own = absurd (none-some another asks)
+    asks_elsewhere (role.Client d) (request.PutMitigation path body) another asks out own = out (same_Some another domain (sym asks ∙ own))
+    asks_elsewhere (role.Client d) (request.GetMitigation path content observe) another asks out own = out (same_Some another domain (sym asks ∙ own))
+    asks_elsewhere (role.Client d) (request.DeleteMitigation path) another asks out own = out (same_Some another domain (sym asks ∙ own))
+    asks_elsewhere (role.Client d) (request.PutConfig sid body) another asks out own = out (same_Some another domain (sym asks ∙ own))
+    asks_elsewhere (role.Client d) (request.GetConfig sid) another asks out own = out (same_Some another domain (sym asks ∙ own))
+    asks_elsewhere (role.Client d) (request.DeleteConfig sid) another asks out own = out (same_Some another domain (sym asks ∙ own))
+    asks_elsewhere role.Gateway r another asks out own = none-some domain own
+    asks_elsewhere role.Stranger r another asks out own = none-some domain own
+
+    module _ (peer : ℕ) (datagram : List ℕ) where
+      -- who is no client of the domain leaves it
+      pub heard_elsewhere : (state met : State) → own_domain settings peer ≢ Some domain → Hears settings state peer datagram met → part_of settings domain met ≡ part_of settings domain state
+      heard_elsewhere state met out (by_message known m is spelled e) = ap (part_of settings domain) e ∙ hearing_other settings domain state peer out
+      heard_elsewhere state met out (unreadable fault breaks e) = ap (part_of settings domain) e
+      heard_elsewhere state met out (by_stranger unknown e) = ap (part_of settings domain) e
+
+      hearing_same : (state other : State) → HaveOnePart settings domain state other → HaveOnePart settings domain (hearing settings peer state) (hearing settings peer other)
+      hearing_same state other same = by_own (own_domain settings peer) refl
+        where
+          by_parts : (own : Bool) → is_domain domain (own_domain settings peer) ≡ own → part_of settings domain (hearing settings peer state) ≡ part_of settings domain (hearing settings peer other)
+          by_parts true is =
+              let own = own_or_not domain (own_domain settings peer) is in
+              hearing_own settings domain state peer own
+              ∙ ap (λ t. part_heard settings t peer (part_of settings domain state)) same.same.time
+              ∙ ap (part_heard settings other.time peer) (parts_of state other same)
+              ∙ sym (hearing_own settings domain other peer own)
+          by_parts false never =
+              let out : own_domain settings peer ≢ Some domain = λ own. both_ways (is_domain domain (own_domain settings peer)) never (is_own_domain domain (own_domain settings peer) own) in
+              hearing_other settings domain state peer out ∙ parts_of state other same ∙ sym (hearing_other settings domain other peer out)
+
+          by_own : (own : Option ℕ) → own_domain settings peer ≡ own → HaveOnePart settings domain (hearing settings peer state) (hearing settings peer other)
+          by_own own is = one_part_of (hearing settings peer state) (hearing settings peer other) same.same.time (by_parts (is_domain domain (own_domain settings peer)) refl)
+
+      -- it is heard in the same way elsewhere
+      heard_alike : (state other met : State) → HaveOnePart settings domain state other → Hears settings state peer datagram met
+          → (last : State) × Hears settings other peer datagram last × HaveOnePart settings domain met last
+      heard_alike state other met same (by_message known m is spelled e) = (
+        hearing settings peer other,
+        by_message known m is spelled refl,
+        subst (λ s. HaveOnePart settings domain s (hearing settings peer other)) (sym e) (hearing_same state other same),
+      )
+      heard_alike state other met same (unreadable fault breaks e) = (other, unreadable fault breaks refl, subst (λ s. HaveOnePart settings domain s other) (sym e) same)
+      heard_alike state other met same (by_stranger unknown e) = (other, by_stranger unknown refl, subst (λ s. HaveOnePart settings domain s other) (sym e) same)
+
+  pub fronts_contacts : (conn : ℕ) (state : State) (turns : List (Turn State)) (new : State) → Chain (AnswersFront settings conn) state turns new → new.contacts ≡ state.contacts
+  fronts_contacts conn state [] new x = ap (λ (s : State). s.contacts) x
+  fronts_contacts conn state (turn ∷ turns) new x = fronts_contacts conn turn.left turns new x.1 ∙ ap (λ (s : State). s.contacts) x.0.3
+
+  pub after_contacts : (v : Verdict) (state : State) → (after v state).contacts ≡ state.contacts
+  after_contacts verdict.Silent state = refl
+  after_contacts (verdict.Reply reply) state = refl
+  after_contacts (verdict.LongReply reply) state = refl
+  after_contacts (verdict.Retrieves y body) state = refl
+  after_contacts (verdict.Accept reply entry) state = refl
+
+  pub heard_of : (domain : ℕ) (one other : State) → one.contacts ≡ other.contacts → heard_in settings domain one ≡ heard_in settings domain other
+  heard_of domain one other same = ap (λ rows. filter (is_client_in settings domain) (map last_heard rows)) same
+
+  module _ (domain : ℕ) (old other : State) (same : HaveOnePart settings domain old other) (at : ℕ) (new : State) where
+    moved : HaveOnePart settings domain (later old at) (later other at)
+    moved = record { same = record { time = ap (λ time. max at time) same.same.time; entries = same.same.entries }; heard = same.heard }
 
     pub step_apart : (event : Event) (owed : List (State × OwnedOut)) → Step settings old event at owed new → StaysApart settings domain old other event at (outs_of owed) new
-    step_apart (event.Datagram peer datagram) owed step = joined (decided_apart domain (later old at) (later other at) moved peer datagram a.decided a.decides)
+    step_apart (event.Datagram peer datagram) owed step = joined (decided_apart domain a.met left alike.2.same peer datagram a.decided a.decides)
       where
         a : Answers settings (later old at) peer datagram step.0 new
         a = step.2
 
-        history_is : new.history ≡ (after a.decided (later old at)).history
+        alike : (last : State) × Hears settings (later other at) peer datagram last × HaveOnePart settings domain a.met last
+        alike = heard_alike domain peer datagram (later old at) (later other at) a.met moved a.hears
+
+        left : State
+        left = alike.0
+
+        history_is : new.history ≡ (after a.decided a.met).history
         history_is = answer_history settings (later old at) peer datagram step.0 new a
 
-        left_same : SameFor domain (after a.decided (later old at)) (after a.decided (later other at))
-        left_same = same_after domain (later old at) (later other at) moved a.decided
+        left_same : SameFor domain (after a.decided a.met) (after a.decided left)
+        left_same = same_after domain a.met left alike.2.same a.decided
 
-        joined : ForAnother domain (later old at) (later other at) moved peer datagram a.decided ⊎ Decides settings (later other at) peer datagram a.decided
+        time_is : new.time ≡ (after a.decided a.met).time
+        time_is = told_time settings (watched settings peer a.asked a.decided a.replies (after a.decided a.met)) new a.notices a.notified
+
+        heard_is : heard_in settings domain new ≡ heard_in settings domain (after a.decided left)
+        heard_is =
+            ap (λ (part : Part). part.heard) (told_part settings domain (watched settings peer a.asked a.decided a.replies (after a.decided a.met)) new a.notices a.notified)
+            ∙ heard_of domain (after a.decided a.met) a.met (after_contacts a.decided a.met) ∙ alike.2.heard
+            ∙ sym (heard_of domain (after a.decided left) left (after_contacts a.decided left))
+
+        asked_elsewhere : (another : ℕ) → another ≢ domain → AsksFor settings another (event.Datagram peer datagram) → own_domain settings peer ≢ Some domain
+        asked_elsewhere another there (by_datagram p bytes x r is got found) =
+            let same_peer : peer ≡ p = cc is in
+            subst (λ p. own_domain settings p ≢ Some domain) (sym same_peer) (asks_elsewhere domain (role_of settings p) r another found there)
+
+        joined : ForAnother domain a.met left alike.2.same peer datagram a.decided ⊎ Decides settings left peer datagram a.decided
             → StaysApart settings domain old other (event.Datagram peer datagram) at (outs_of owed) new
-        joined (inl (another, there, asks, none)) = elsewhere another there asks (ap (alone domain) history_is ∙ none)
+        joined (inl (another, there, asks, none)) =
+            elsewhere another there asks
+            (ap (alone domain) history_is ∙ none ∙ ap (λ (part : Part). part.entries) (heard_elsewhere domain peer datagram (later old at) a.met (asked_elsewhere another there asks) a.hears))
         joined (inr also) =
-            decided_alike peer datagram a.decided (number_of settings a.asked a.met.observers) a.notices refl a.decides also
+            decided_alike peer datagram a.met left a.decided (number_of settings a.asked a.met.observers) a.notices refl a.hears alike.1 a.decides also
             (ap outs_of step.1 ∙ outs_back new step.0 ∙ a.sends_are ∙ ap (λ replies. replies ++ a.notices) a.replies_are)
-            (record {
-              time = answer_time settings (later old at) peer datagram step.0 new a ∙ left_same.time;
-              entries = ap (alone domain) history_is ∙ left_same.entries;
-            })
+            (record { same = record { time = time_is ∙ left_same.time; entries = ap (alone domain) history_is ∙ left_same.entries }; heard = heard_is })
     step_apart event.End owed step = without_request tt (ap (λ (state : State). alone domain state.history) step.1)
     step_apart event.Failed owed step = without_request tt (ap (λ (state : State). alone domain state.history) step.1)
     step_apart (event.Opened c p) owed step = without_request tt (ap (alone domain) (opens_history (later old at) p c step.0 new step.2))
@@ -276,9 +373,14 @@ module _ (settings : SettingsValue) where
         here : AsksOn settings domain conn old → Apartly
         here asks =
             let a = fronts_alike settings conn domain state (receiving conn piece (later (connected_as old other) at)) x.answered x.rested x.fronts (on_received settings conn domain piece (later old at) asks) refl
-            (record { time = moved.time; entries = moved.entries }) in
+            (record { time = moved.same.time; entries = moved.same.entries }) in
             answered_alike conn piece x.answered a.0 x.rested a.1 x.notices refl asks x.fronts a.2 a.3 (ap outs_of step.1 ∙ takes_outs settings conn state step.0 new x)
-            (record { time = told_time settings x.rested new x.notices x.notified ∙ a.4.time; entries = ap (alone domain) history_is ∙ a.4.entries })
+            (record {
+              same = record { time = told_time settings x.rested new x.notices x.notified ∙ a.4.time; entries = ap (alone domain) history_is ∙ a.4.entries };
+              heard = ap (λ (part : Part). part.heard) (told_part settings domain x.rested new x.notices x.notified)
+                  ∙ heard_of domain x.rested (later old at) (fronts_contacts conn state x.answered x.rested x.fronts) ∙ moved.heard
+                  ∙ sym (heard_of domain a.1 (later other at) (fronts_contacts conn (receiving conn piece (later (connected_as old other) at)) a.0 a.1 a.2));
+            })
 
         by_caller : (found : Option Caller) → caller_of settings conn old.lines ≡ found → Apartly
         by_caller None is = away (λ caller there. absurd (none-some caller (sym is ∙ there)))
@@ -291,5 +393,11 @@ module _ (settings : SettingsValue) where
             by_test true own = here (λ c there. ap (λ (c : Caller). c.domain) (sym (one c there)) ∙ grind (arith, nat_tests, own))
             by_test false out = away (λ c there same. both_ways (caller.domain == domain) out (let is : caller.domain ≡ domain = ap (λ (c : Caller). c.domain) (one c there) ∙ same in grind (arith, nat_tests, is)))
     step_apart (event.Closed c) owed step = without_request tt (ap (λ (state : State). alone domain state.history) step.1)
-    step_apart event.Tick owed step = without_request tt (ap (alone domain) (tick_history settings (later old at) step.0 new step.2))
+    step_apart event.Tick owed step =
+        lapsed_alike refl
+        (one_part_of domain new (lapsed settings (later other at)) (tick_time settings (later old at) step.0 new step.2 ∙ moved.same.time)
+        (tick_part settings domain (later old at) step.0 new step.2
+        ∙ ap (λ t. part_lapsed settings t (part_of settings domain (later old at))) moved.same.time
+        ∙ ap (part_lapsed settings (later other at).time) (parts_of domain (later old at) (later other at) moved)
+        ∙ sym (lapsed_part settings domain (later other at))))
     step_apart event.Restart owed step = without_request tt (ap (λ (state : State). alone domain state.history) step.1)

@@ -1,5 +1,5 @@
 -- What a body is refused for is a cause of the body.
-use Rattle.std.proofs.Common.{◌≡◌, ℕ, ℤ, Bool, true, false, cond, List, [], ◌∷◌, Option, Some, None, Result, Ok, Err, sym, subst}
+use Rattle.std.proofs.Common.{◌≡◌, ℕ, ℤ, Bool, true, false, cond, List, [], ◌∷◌, Option, Some, None, Result, Ok, Err, sym, subst, is_some}
 use Rattle.std.specs.Prelude.{ok_or, ◌==◌, nat_le, nat_lt, ◌&&◌, ◌^◌}
 use Rattle.cbor_profile.specs.Tree.{Tree, unsigned, negative, byte_string, text, array, mapping, tag, boolean, null, Trees, no_items, item, Pairs}
 use Rattle.cbor_profile.specs.Kind.{number_in, text_in, items_in, pairs_in}
@@ -27,7 +27,7 @@ use Rattle.dots_keys.specs.declared.ports.PortPair.{PortPair}
 use Rattle.dots_keys.specs.Fields.{Field, known, unknown, fields_in, all_unsigned, map_fields, fields_of, each_field, first_field, ended_with, sole_field}
 use Rattle.dots_keys.specs.Heartbeats.{boolean_in, peer_status, heartbeat_of}
 use Rattle.dots_keys.specs.Configurations.{current_value, decimal_in, current_decimal, number_under, decimal_under, take_value, offer_key_of, offer_field, no_offer, offers_nothing, some_offer, offer_under, take_offer, config_key_of, config_field, no_config, some_config, signal_config, configuration_of}
-use Rattle.dots_keys.specs.Mitigations.{each_item, at_most, array_under, prefix_of, byte_in, protocol_of, name_in, name_of, port_in, port_of, not_below, take_port, range_key_of, range_field, no_ports, range_between, range_with, range_of, lifetime_of, refuse_trigger, take_target, scope_key_of, scope_field, nothing_asked, has_target, with_lifetime, whole_scope, scope_of, only_item, only_scope, mitigation_of}
+use Rattle.dots_keys.specs.Mitigations.{each_item, at_most, array_under, prefix_of, byte_in, protocol_of, name_in, name_of, port_in, port_of, not_below, take_port, range_key_of, range_field, no_ports, range_between, range_with, range_of, lifetime_of, trigger_of, take_target, scope_key_of, scope_field, nothing_asked, has_target, with_lifetime, whole_scope, scope_of, only_item, only_scope, mitigation_of}
 use Rattle.dots_keys.specs.Meaning.{IsBody, AnswersBody, Completes, put_mitigation_with, put_config_with, put_heartbeat_with}
 
 abbrev pub IsBodily : Reject → Type 0
@@ -125,49 +125,51 @@ lifetime_bodily (tag n tree) = tt
 lifetime_bodily (boolean b) = tt
 lifetime_bodily null = tt
 
-trigger_bodily : (tree : Tree) → Bodily (refuse_trigger tree)
-trigger_bodily (boolean true) = tt
-trigger_bodily (boolean false) = tt
-trigger_bodily (unsigned n) = tt
-trigger_bodily (negative n) = tt
-trigger_bodily (byte_string bytes) = tt
-trigger_bodily (text bytes) = tt
-trigger_bodily (array trees) = tt
-trigger_bodily (mapping pairs) = tt
-trigger_bodily (tag n tree) = tt
-trigger_bodily null = tt
+trigger_bodily : (gateway : Bool) (tree : Tree) → Bodily (trigger_of gateway tree)
+trigger_bodily gateway (boolean true) = tt
+trigger_bodily true (boolean false) = tt
+trigger_bodily false (boolean false) = tt
+trigger_bodily gateway (unsigned n) = tt
+trigger_bodily gateway (negative n) = tt
+trigger_bodily gateway (byte_string bytes) = tt
+trigger_bodily gateway (text bytes) = tt
+trigger_bodily gateway (array trees) = tt
+trigger_bodily gateway (mapping pairs) = tt
+trigger_bodily gateway (tag n tree) = tt
+trigger_bodily gateway null = tt
 
-target_bodily : (key : Option ScopeKey) (said : Scope) (n : ℕ) (tree : Tree) → Bodily (take_target key said n tree)
-target_bodily (Some scope_key.Prefixes) said n tree =
+target_bodily : (gateway : Bool) (key : Option ScopeKey) (said : Scope) (n : ℕ) (tree : Tree) → Bodily (take_target gateway key said n tree)
+target_bodily gateway (Some scope_key.Prefixes) said n tree =
     then_bodily (array_under 6 MAX_ITEMS prefix_of tree) _ (array_bodily 6 MAX_ITEMS prefix_of (λ tree. or_bodily _ 6) tree) (λ prefixes. tt)
-target_bodily (Some scope_key.Ports) said n tree =
+target_bodily gateway (Some scope_key.Ports) said n tree =
     then_bodily (array_under 7 MAX_ITEMS range_of tree) _ (array_bodily 7 MAX_ITEMS range_of range_bodily tree) (λ ports. tt)
-target_bodily (Some scope_key.Protocols) said n tree =
+target_bodily gateway (Some scope_key.Protocols) said n tree =
     then_bodily (array_under 10 MAX_ITEMS protocol_of tree) _ (array_bodily 10 MAX_ITEMS protocol_of (λ tree. or_bodily (byte_in (number_in tree)) 10) tree) (λ protocols. tt)
-target_bodily (Some scope_key.Names) said n tree =
+target_bodily gateway (Some scope_key.Names) said n tree =
     then_bodily (array_under 11 MAX_NAMES (name_of 11) tree) _ (array_bodily 11 MAX_NAMES (name_of 11) (λ tree. or_bodily (name_in (text_in tree)) 11) tree) (λ names. tt)
-target_bodily (Some scope_key.Aliases) said n tree =
+target_bodily gateway (Some scope_key.Aliases) said n tree =
     then_bodily (array_under 13 MAX_NAMES (name_of 13) tree) _ (array_bodily 13 MAX_NAMES (name_of 13) (λ tree. or_bodily (name_in (text_in tree)) 13) tree) (λ aliases. tt)
-target_bodily (Some scope_key.Lifetime) said n tree = then_bodily (lifetime_of tree) _ (lifetime_bodily tree) (λ lifetime. tt)
-target_bodily (Some scope_key.Trigger) said n tree = then_bodily (refuse_trigger tree) (λ _. Ok said) (trigger_bodily tree) (λ _. tt)
-target_bodily None said n tree = tt
+target_bodily gateway (Some scope_key.Lifetime) said n tree = then_bodily (lifetime_of tree) _ (lifetime_bodily tree) (λ lifetime. tt)
+target_bodily gateway (Some scope_key.Trigger) said n tree = then_bodily (trigger_of gateway tree) _ (trigger_bodily gateway tree) (λ trigger. tt)
+target_bodily gateway None said n tree = tt
 
-lived_bodily : (asked : Asked) (lifetime : Option ℤ) → Bodily (with_lifetime asked lifetime)
-lived_bodily asked None = tt
-lived_bodily asked (Some lifetime) = tt
+lived_bodily : (asked : Asked) (trigger : Bool) (lifetime : Option ℤ) → Bodily (with_lifetime asked trigger lifetime)
+lived_bodily asked trigger None = tt
+lived_bodily asked trigger (Some lifetime) = tt
 
 whole_bodily : (said : Scope) → Bodily (whole_scope said)
-whole_bodily said = test_bodily (has_target said.asked) (with_lifetime said.asked said.lifetime) _ (lived_bodily said.asked said.lifetime) tt
+whole_bodily said = test_bodily (has_target said.asked) (with_lifetime said.asked said.trigger said.lifetime) _ (lived_bodily said.asked said.trigger said.lifetime) tt
 
-scope_bodily : (tree : Tree) → Bodily (scope_of tree)
-scope_bodily tree =
+scope_bodily : (gateway : Bool) (tree : Tree) → Bodily (scope_of gateway tree)
+scope_bodily gateway tree =
     then_bodily (fields_of 2 tree) _ (map_bodily 2 (pairs_in tree))
-    (λ fields. then_bodily (each_field scope_field nothing_asked fields) _ (each_bodily scope_field (λ said n tree. target_bodily (scope_key_of n) said n tree) nothing_asked fields) whole_bodily)
+    (λ fields. then_bodily (each_field (scope_field gateway) nothing_asked fields) _ (each_bodily (scope_field gateway) (λ said n tree. target_bodily gateway (scope_key_of n) said n tree) nothing_asked fields) whole_bodily)
 
-mitigation_bodily : (tree : Tree) → Bodily (mitigation_of tree)
-mitigation_bodily tree =
-    sole_bodily 0 1 (sole_field 1 2 only_scope)
-    (sole_bodily 1 2 only_scope (λ tree. then_bodily (ok_or (only_item (items_in tree)) (invalid 2)) scope_of (or_bodily (only_item (items_in tree)) 2) scope_bodily))
+mitigation_bodily : (gateway : Bool) (tree : Tree) → Bodily (mitigation_of gateway tree)
+mitigation_bodily gateway tree =
+    sole_bodily 0 1 (sole_field 1 2 (only_scope gateway))
+    (sole_bodily 1 2 (only_scope gateway)
+    (λ tree. then_bodily (ok_or (only_item (items_in tree)) (invalid 2)) (scope_of gateway) (or_bodily (only_item (items_in tree)) 2) (scope_bodily gateway)))
     tree
 
 -- ---- configurations
@@ -226,7 +228,7 @@ refused_not e r same = absurd (cc same)
 
 pub completes_bodily : (operation : Operation) (content : Content) (observe : Observe) (payload : List ℕ) (e : Reject) → Completes operation content observe payload (Err e) → IsBodily e
 completes_bodily (put_mitigation path) content observe payload e a =
-    body_bodily payload (put_mitigation_with path) e (λ tree. then_bodily (mitigation_of tree) _ (mitigation_bodily tree) (λ body. tt)) a
+    body_bodily payload (put_mitigation_with path) e (λ tree. then_bodily (mitigation_of (is_some path.cdid) tree) _ (mitigation_bodily (is_some path.cdid) tree) (λ body. tt)) a
 completes_bodily (get_mitigation path) content observe payload e a = refused_not e _ a
 completes_bodily (delete_mitigation path) content observe payload e a = refused_not e _ a
 completes_bodily (put_config sid) content observe payload e a =

@@ -84,6 +84,14 @@ same_time_after (verdict.LongReply reply) a b same = same
 same_time_after (verdict.Retrieves x body) a b same = same
 same_time_after (verdict.Accept reply entry) a b same = same
 
+-- a verdict moves no time
+pub after_time : (v : Verdict) (state : State) → (after v state).time ≡ state.time
+after_time verdict.Silent state = refl
+after_time (verdict.Reply reply) state = refl
+after_time (verdict.LongReply reply) state = refl
+after_time (verdict.Retrieves y body) state = refl
+after_time (verdict.Accept reply entry) state = refl
+
 -- a verdict changes no observer
 pub after_observers : (v : Verdict) (state : State) → (after v state).observers ≡ state.observers
 after_observers verdict.Silent state = refl

@@ -1,5 +1,5 @@
 -- Over a whole run a domain's entries are what its own requests make.
-use Rattle.std.proofs.Common.{◌≡◌, ◌≢◌, ◌⊎◌, ◌==◌, inl, inr, ℕ, Bool, true, false, List, [], ◌∷◌, ◌++◌, Option, Some, None, refl, sym, ap, ◌∙◌, subst, arith, append-nil}
+use Rattle.std.proofs.Common.{◌≡◌, ◌≢◌, ◌⊎◌, ◌==◌, inl, inr, ℕ, Bool, true, false, List, [], ◌∷◌, ◌++◌, Option, Some, None, refl, sym, ap, ◌∙◌, subst, arith, append-nil, map, append_assoc}
 use Rattle.std.proofs.lemmas.Bool.{false≢true, cond_both, both_ways, cond-true}
 use Rattle.std.proofs.lemmas.Bool.Decides.{nat_tests}
 use Rattle.std.proofs.lemmas.List.Elements.{filter-append}
@@ -29,28 +29,34 @@ use Rattle.dots_keys.specs.declared.request.Request.TheVariants as request
 use Rattle.coap_replies.specs.declared.exchange.Exchange.{Exchange}
 use Rattle.coap_replies.specs.declared.dismissal.Dismissal.{Dismissal}
 use Rattle.coap_replies.specs.declared.dismissal.Dismissal.TheVariants as dismissal
+use Rattle.dots_machine.specs.Machine as machine
+use Rattle.dots_machine.specs.Isolation as isolation
 use Rattle.dots_machine.specs.declared.received.Received.{Received}
 use Rattle.dots_machine.specs.declared.received.Received.TheVariants as received
 use Rattle.dots_machine.specs.Verdict.{Verdict}
 use Rattle.dots_machine.specs.declared.verdict.Verdict.TheVariants as verdict
 use Rattle.dots_machine.specs.Domains.{is_gateway, domain_for, config_domain, is_stranger}
 use Rattle.dots_machine.specs.Requests.{IsReceived}
-use Rattle.dots_machine.specs.Machine.{State, afresh, later, DecidesRequest, Rules, dismissal_verdict, reject_verdict, Decides, by_silence, by_rules, for_want_of_memory, sends_of, after, AnswersFront, receiving, Takes, Step, facts_in}
+use Rattle.dots_machine.specs.Machine.{State, afresh, later, DecidesRequest, Rules, dismissal_verdict, reject_verdict, Decides, by_silence, by_rules, for_want_of_memory, sends_of, after, AnswersFront, receiving, Takes, Step, facts_in, Answers, Hears, watched}
 use Rattle.dots_machine.specs.Apart.{SameFor, domain_of, AsksFor, by_datagram, AsksOn}
 use Rattle.dots_machine.specs.Handlings.{Handling, IsHandling, EachHandling, handlings_of}
-use Rattle.dots_machine.specs.Isolation.{by_message, by_http, TakenUp, TakesUp, PassesBy, none_came, was_refused, lacked_memory, FrontTakesUp, FrontPassesBy, of_another, front_refused, failed, FrontsTakeUp, PieceTakesUp, TakesUpAll, entries_of, AnsweredBy, Make, IsIsolated}
+use Rattle.dots_machine.specs.Isolation.{by_message, by_http, TakenUp, TakesUp, PassesBy, none_came, was_refused, lacked_memory, FrontTakesUp, FrontPassesBy, of_another, front_refused, failed, FrontsTakeUp, PieceTakesUp, TakesUpAll, entries_of, AnsweredBy, Make, IsIsolated, DomainTurn, hears, asks, ticks, restarts, IsHeard, SignalsFirst}
 use Rattle.dots_machine.specs.Deciding.{in_domain, put_for, delete_for, get_for, put_config_for, delete_config_for, get_config_for, answer_to}
 use Rattle.dots_machine.proofs.OneRequest.{Same, one, first_refused, second_refused, same_received}
 use Rattle.dots_machine.proofs.Outcomes.{AcceptsWell, IsRefusal, reject_refuses, puts_accept, deletes_accept, gets_accept, put_configs_accept, delete_configs_accept, get_configs_accept, request_accepts}
 use Rattle.dots_machine.proofs.Verdicts.{request_valued, request_there}
 use Rattle.dots_machine.specs.Observing.{number_of}
-use Rattle.dots_machine.proofs.Hearing.{answer_history, answer_time, tick_history}
+use Rattle.dots_machine.proofs.Hearing.{answer_history, answer_time, tick_history, after_time, tick_time}
 use Rattle.dots_machine.proofs.Connections.{opens_history}
-use Rattle.dots_machine.proofs.Observing.{told_history}
-use Rattle.dots_machine.proofs.Apart.{untouched, Elsewhere, asked_apart}
+use Rattle.dots_machine.proofs.Observing.{told_history, told_time}
+use Rattle.dots_machine.proofs.Apart.{untouched, Elsewhere, asked_apart, heard_of, after_contacts, fronts_contacts}
 use Rattle.dots_machine.proofs.Fronts.{takes_outs}
 use Rattle.dots_machine.proofs.FrontsApart.{front_elsewhere, front_alike}
 use Rattle.dots_machine.proofs.Handlings.{by_handlings}
+use Rattle.dots_machine.specs.Signals.{domain_of_client, own_domain, LastHeard}
+use Rattle.dots_machine.specs.Parts.{Part, is_domain, heard_in, part_of, part_heard, part_lapsed, part_restarted}
+use Rattle.dots_machine.proofs.Parting.{alone_twice, own_or_not, is_own_domain, hearing_own, hearing_other, told_part, tick_part}
+use Rattle.std.proofs.lemmas.Option.{none-some}
 
 -- ---- small steps
 some_same : {X : Type 0} (x y : X) → Some x ≡ Some y → x ≡ y
@@ -58,17 +64,6 @@ some_same x y e = cc
 
 some_or_none : {X : Type 0} (x : X) → Some x ≡ None → ⊥
 some_or_none x e = cc
-
-alone_twice : (domain : ℕ) (entries : List Entry) → alone domain entries ≡ alone domain (alone domain entries)
-alone_twice domain [] = refl
-alone_twice domain (e ∷ later) =
-    cond_both
-    (e.domain == domain)
-    (e ∷ alone domain later)
-    (alone domain later)
-    (λ es. es ≡ alone domain es)
-    (λ here. ap (λ es. e ∷ es) (alone_twice domain later) ∙ sym (cond-true (e.domain == domain) (e ∷ alone domain (alone domain later)) (alone domain (alone domain later)) here))
-    (λ out. alone_twice domain later)
 
 stranger_is : (who : Role) → is_stranger who ≡ true → who ≡ role.Stranger
 stranger_is role.Stranger is = refl
@@ -100,6 +95,31 @@ dismissal_adds_nothing : (d : Dismissal) (state : State) → after (dismissal_ve
 dismissal_adds_nothing dismissal.Ignored state = refl
 dismissal_adds_nothing (dismissal.Reset id) state = refl
 dismissal_adds_nothing (dismissal.Rejected id) state = refl
+
+-- ---- the entries that requests make
+
+abbrev MakeEntries : SettingsValue → ℕ → List Entry → List TakenUp → List Entry → Type 0
+MakeEntries settings domain before [] after = after ≡ before
+MakeEntries settings domain before (taken ∷ rest) after =
+    (accepted : List Entry) × AnsweredBy settings domain before taken.time taken.peer taken.asking taken.replies accepted
+    × MakeEntries settings domain (before ++ accepted) rest after
+
+-- the part with these entries
+abbrev with_entries : List LastHeard → List Entry → Part
+with_entries heard entries = record { entries = entries; heard = heard }
+
+requests_make : (settings : SettingsValue) (domain : ℕ) (heard : List LastHeard) (before : List Entry) (requests : List TakenUp) (after : List Entry) → MakeEntries settings domain before requests after
+    → Make settings domain (with_entries heard before) (map asks requests) (with_entries heard after)
+requests_make settings domain heard before [] after is = ap (with_entries heard) is
+requests_make settings domain heard before (taken ∷ rest) after make =
+    (with_entries heard (before ++ make.0), (make.0, make.1, refl), requests_make settings domain heard (before ++ make.0) rest after make.2)
+
+-- ---- turns, one after the other
+
+make_then : (settings : SettingsValue) (domain : ℕ) (before between after : Part) (first rest : List DomainTurn) → Make settings domain before first between → Make settings domain between rest after
+    → Make settings domain before (first ++ rest) after
+make_then settings domain before between after [] rest a b = subst (λ part. Make settings domain part rest after) a b
+make_then settings domain before between after (turn ∷ first) rest a b = (a.0, a.1, make_then settings domain a.0 between after first rest a.2 b)
 
 -- ---- of a connection
 
@@ -188,40 +208,38 @@ module _ (settings : SettingsValue) (domain conn : ℕ) where
             a.lines a.turn (asks a.turn.caller a.turn.asks) a.turn.front refl a.turn.stands
 
   fronts_isolated : (state : State) (turns : List (Turn State)) (new : State) → Chain (AnswersFront settings conn) state turns new
-      → (requests : List TakenUp) × FrontsTakeUp settings domain conn state turns requests × Make settings domain (alone domain state.history) requests (alone domain new.history)
+      → (requests : List TakenUp) × FrontsTakeUp settings domain conn state turns requests × MakeEntries settings domain (alone domain state.history) requests (alone domain new.history)
   fronts_isolated state [] new x = ([], refl, ap (λ (s : State). alone domain s.history) x)
   fronts_isolated state (turn ∷ turns) new x = joined (one_front_isolated state turn.sends turn.left x.0) (fronts_isolated turn.left turns new x.1)
     where
       joined : Front state turn.sends turn.left
-          → ((requests : List TakenUp) × FrontsTakeUp settings domain conn turn.left turns requests × Make settings domain (alone domain turn.left.history) requests (alone domain new.history))
-          → (requests : List TakenUp) × FrontsTakeUp settings domain conn state (turn ∷ turns) requests × Make settings domain (alone domain state.history) requests (alone domain new.history)
+          → ((requests : List TakenUp) × FrontsTakeUp settings domain conn turn.left turns requests × MakeEntries settings domain (alone domain turn.left.history) requests (alone domain new.history))
+          → (requests : List TakenUp) × FrontsTakeUp settings domain conn state (turn ∷ turns) requests × MakeEntries settings domain (alone domain state.history) requests (alone domain new.history)
       joined (inl (taken, how, accepted, answered, entries)) more = (
         taken ∷ more.0,
         inl (taken, more.0, refl, how, more.1),
-        (accepted, answered, subst (λ es. Make settings domain es more.0 (alone domain new.history)) entries more.2),
+        (accepted, answered, subst (λ es. MakeEntries settings domain es more.0 (alone domain new.history)) entries more.2),
       )
       joined (inr (passes, entries)) more =
-          (more.0, inr (passes, more.1), subst (λ es. Make settings domain es more.0 (alone domain new.history)) entries more.2)
+          (more.0, inr (passes, more.1), subst (λ es. MakeEntries settings domain es more.0 (alone domain new.history)) entries more.2)
 
 -- ---- of a handling
 
-module _ (settings : SettingsValue) (domain : ℕ) (old : State) (handling : Handling) (new : State) where
-  abbrev now : State
-  now = later old handling.at
-
+-- What it takes up is decided on in this state: the one in which its peer was heard, or in which signals are lost.
+module _ (settings : SettingsValue) (domain : ℕ) (now : State) (handling : Handling) (new : State) where
   -- the state that has the domain's entries alone
   abbrev own : State
-  own = afresh settings (alone domain old.history) new.time
+  own = afresh settings (alone domain now.history) new.time
 
   -- a request for the domain was taken up, and its answer goes by the domain's entries alone
   abbrev Taken : Type 0
   Taken =
       (taken : TakenUp) × TakesUp settings domain handling new taken × (accepted : List Entry)
-      × AnsweredBy settings domain (alone domain old.history) taken.time taken.peer taken.asking taken.replies accepted
-      × (alone domain new.history ≡ alone domain old.history ++ accepted)
+      × AnsweredBy settings domain (alone domain now.history) taken.time taken.peer taken.asking taken.replies accepted
+      × (alone domain new.history ≡ alone domain now.history ++ accepted)
 
   abbrev Passed : Type 0
-  Passed = PassesBy settings domain handling × (alone domain new.history ≡ alone domain old.history)
+  Passed = PassesBy settings domain handling × (alone domain new.history ≡ alone domain now.history)
 
   module _ (peer : ℕ) (datagram : List ℕ) (came : handling.what ≡ event.Datagram peer datagram) where
     abbrev who : Role
@@ -264,15 +282,15 @@ module _ (settings : SettingsValue) (domain : ℕ) (old : State) (handling : Han
 
     module _ (replies notices : List OwnedOut) (sent : handling.sends ≡ replies ++ notices) (decided : Verdict) (number : Option ℕ) (told : replies ≡ sends_of number decided peer)
         (history_is : new.history ≡ (after decided now).history) (time_is : new.time ≡ (after decided now).time) where
-      unchanged : after decided now ≡ now → alone domain new.history ≡ alone domain old.history
+      unchanged : after decided now ≡ now → alone domain new.history ≡ alone domain now.history
       unchanged same = ap (alone domain) (history_is ∙ ap (λ (state : State). state.history) same)
 
       -- the verdict leaves the domain's entries as they were
       abbrev Left : Verdict → Type 0
-      Left v = alone domain (after v now).history ≡ alone domain old.history
+      Left v = alone domain (after v now).history ≡ alone domain now.history
 
       -- not for the domain
-      not_taken : (x : Exchange) (r : Request) → (IsAsked r → ⊥) → decided ≡ answer_to settings (facts_in settings now) peer x r → alone domain new.history ≡ alone domain old.history
+      not_taken : (x : Exchange) (r : Request) → (IsAsked r → ⊥) → decided ≡ answer_to settings (facts_in settings now) peer x r → alone domain new.history ≡ alone domain now.history
       not_taken x r never is = ap (alone domain) (history_is ∙ ap (λ v. (after v now).history) is) ∙ left r never
         where
           same_now : SameFor domain now now
@@ -326,7 +344,7 @@ module _ (settings : SettingsValue) (domain : ℕ) (old : State) (handling : Han
       )
         where
           same : SameFor domain now own
-          same = record { time = sym (time_is ∙ time_kept decided); entries = alone_twice domain old.history }
+          same = record { time = sym (time_is ∙ time_kept decided); entries = alone_twice domain now.history }
 
           alike : answer_to settings (facts_in settings now) peer x r ≡ answer_to settings (facts_in settings own) peer x r
           alike = by_apart (asked_apart settings domain now own same peer x r)
@@ -339,14 +357,14 @@ module _ (settings : SettingsValue) (domain : ℕ) (old : State) (handling : Han
           well_so : decided ≡ answer_to settings (facts_in settings now) peer x r → AcceptsWell domain decided
           well_so is = subst (AcceptsWell domain) (sym is) (request_accepts settings (facts_in settings now) peer x r domain asked)
 
-          added : (v : Verdict) → AcceptsWell domain v → alone domain (after v now).history ≡ alone domain old.history ++ entries_of v
+          added : (v : Verdict) → AcceptsWell domain v → alone domain (after v now).history ≡ alone domain now.history ++ entries_of v
           added verdict.Silent well = absurd well
-          added (verdict.Reply reply) well = sym (append-nil (alone domain old.history))
-          added (verdict.LongReply reply) well = sym (append-nil (alone domain old.history))
-          added (verdict.Retrieves y body) well = sym (append-nil (alone domain old.history))
+          added (verdict.Reply reply) well = sym (append-nil (alone domain now.history))
+          added (verdict.LongReply reply) well = sym (append-nil (alone domain now.history))
+          added (verdict.Retrieves y body) well = sym (append-nil (alone domain now.history))
           added (verdict.Accept reply entry) well =
-              filter-append (λ e. e.domain == domain) old.history (entry ∷ [])
-              ∙ ap (λ es. alone domain old.history ++ es) (cond-true (entry.domain == domain) (entry ∷ []) [] (grind (arith, nat_tests, well.1)))
+              filter-append (λ e. e.domain == domain) now.history (entry ∷ [])
+              ∙ ap (λ es. alone domain now.history ++ es) (cond-true (entry.domain == domain) (entry ∷ []) [] (grind (arith, nat_tests, well.1)))
 
       -- ---- what was received
       never_asked : (got : Received) → ((x : Exchange) (r : Request) → IsAsked r → Same got (received.Asked x r) → ⊥) → IsReceived datagram (is_gateway who) got → PassesBy settings domain handling
@@ -402,7 +420,7 @@ module _ (settings : SettingsValue) (domain : ℕ) (old : State) (handling : Han
       by_decision (by_rules n got received rules) = by_received got received rules
 
   -- nothing was asked
-  nothing_asked : (what : Event) → handling.what ≡ what → ((peer : ℕ) (datagram : List ℕ) → what ≡ event.Datagram peer datagram → ⊥) → new.history ≡ old.history → Taken ⊎ Passed
+  nothing_asked : (what : Event) → handling.what ≡ what → ((peer : ℕ) (datagram : List ℕ) → what ≡ event.Datagram peer datagram → ⊥) → new.history ≡ now.history → Taken ⊎ Passed
   nothing_asked what is never same = inr (none_came out, ap (alone domain) same)
     where
       out : AsksFor settings domain handling.what → ⊥
@@ -410,7 +428,7 @@ module _ (settings : SettingsValue) (domain : ℕ) (old : State) (handling : Han
 
   -- what was taken up, which makes the later entries of the domain of the earlier ones
   abbrev IsolatedBy : (List TakenUp → Type 0) → Type 0
-  IsolatedBy TakeUp = (requests : List TakenUp) × TakeUp requests × Make settings domain (alone domain old.history) requests (alone domain new.history)
+  IsolatedBy TakeUp = (requests : List TakenUp) × TakeUp requests × MakeEntries settings domain (alone domain now.history) requests (alone domain new.history)
 
   abbrev OneOrNone : List TakenUp → Type 0
   OneOrNone requests = ((taken : TakenUp) × (requests ≡ taken ∷ []) × TakesUp settings domain handling new taken) ⊎ ((requests ≡ []) × PassesBy settings domain handling)
@@ -419,12 +437,105 @@ module _ (settings : SettingsValue) (domain : ℕ) (old : State) (handling : Han
   one_or_none (inl (taken, how, accepted, answered, entries)) = (taken ∷ [], inl (taken, refl, how), (accepted, answered, entries))
   one_or_none (inr (passes, entries)) = ([], inr (refl, passes), entries)
 
+-- ---- of each handling
+
+module _ (settings : SettingsValue) (domain : ℕ) (old : State) (handling : Handling) (new : State) where
+  abbrev now : State
+  now = later old handling.at
+
+  -- the turns of the domain in the handling, which make the later part of it of the earlier one
+  abbrev IsolatedIn : Event → Type 0
+  IsolatedIn what =
+      (signals : List DomainTurn) × (requests : List TakenUp) × SignalsFirst settings domain new what signals × TakesUpAll settings domain old handling new what requests
+      × Make settings domain (part_of settings domain old) (signals ++ map asks requests) (part_of settings domain new)
+
+  -- what was taken up behind this state
+  requests_behind : (state : State) (requests : List TakenUp) → heard_in settings domain new ≡ heard_in settings domain state
+      → MakeEntries settings domain (alone domain state.history) requests (alone domain new.history)
+      → Make settings domain (part_of settings domain state) (map asks requests) (part_of settings domain new)
+  requests_behind state requests heard make =
+      subst (λ h. Make settings domain (part_of settings domain state) (map asks requests) (with_entries h (alone domain new.history))) (sym heard)
+      (requests_make settings domain (heard_in settings domain state) (alone domain state.history) requests (alone domain new.history) make)
+
+  no_datagram : (what : Event) → handling.what ≡ what → ((peer : ℕ) (datagram : List ℕ) → what ≡ event.Datagram peer datagram → ⊥) → AsksFor settings domain handling.what → ⊥
+  no_datagram what is never (by_datagram p bytes x r e got found) = never p bytes (sym is ∙ e)
+
+  -- no signal changes, and nothing is asked
+  quiet : (what : Event) → handling.what ≡ what → ((peer : ℕ) (datagram : List ℕ) → what ≡ event.Datagram peer datagram → ⊥) → new.history ≡ old.history
+      → IsolatedBy settings domain now handling new (OneOrNone settings domain now handling new)
+  quiet what is never same = one_or_none settings domain now handling new (nothing_asked settings domain now handling new what is never same)
+
+  by_datagram_heard : (peer : ℕ) (datagram : List ℕ) (owed : List (State × OwnedOut)) → handling.what ≡ event.Datagram peer datagram → outs_of owed ≡ handling.sends
+      → Step settings old (event.Datagram peer datagram) handling.at owed new → IsolatedIn (event.Datagram peer datagram)
+  by_datagram_heard peer datagram owed is sent step = joined (heard_first a.met a.hears) (one_or_none settings domain a.met handling new decided)
+    where
+      a : Answers settings now peer datagram step.0 new
+      a = step.2
+
+      left : State
+      left = watched settings peer a.asked a.decided a.replies (after a.decided a.met)
+
+      decided : Taken settings domain a.met handling new ⊎ Passed settings domain a.met handling new
+      decided =
+          by_decision settings domain a.met handling new peer datagram is a.replies a.notices
+          (sym sent ∙ ap outs_of step.1 ∙ outs_back new step.0 ∙ a.sends_are) a.decided (number_of settings a.asked a.met.observers) a.replies_are
+          (answer_history settings now peer datagram step.0 new a)
+          (told_time settings left new a.notices a.notified)
+          a.decides
+
+      time_is : new.time ≡ now.time
+      time_is = answer_time settings now peer datagram step.0 new a ∙ after_time a.decided now
+
+      heard_is : heard_in settings domain new ≡ heard_in settings domain a.met
+      heard_is =
+          ap (λ (part : Part). part.heard) (told_part settings domain left new a.notices a.notified)
+          ∙ heard_of settings domain (after a.decided a.met) a.met (after_contacts settings a.decided a.met)
+
+      Heard : State → Type 0
+      Heard met = (signals : List DomainTurn) × IsHeard settings domain new.time peer datagram signals × Make settings domain (part_of settings domain old) signals (part_of settings domain met)
+
+      heard_first : (met : State) → Hears settings now peer datagram met → Heard met
+      heard_first met (machine.by_message known m readable spelled e) = by_own (is_domain domain (own_domain settings peer)) refl
+        where
+          by_own : (own : Bool) → is_domain domain (own_domain settings peer) ≡ own → Heard met
+          by_own true here =
+              let own = own_or_not domain (own_domain settings peer) here in (
+                hears new.time peer ∷ [],
+                isolation.by_message own m readable spelled refl,
+                (
+                  part_heard settings new.time peer (part_of settings domain old),
+                  refl,
+                  ap (part_of settings domain) e ∙ hearing_own settings domain now peer own ∙ ap (λ t. part_heard settings t peer (part_of settings domain old)) (sym time_is),
+                ),
+              )
+          by_own false never =
+              let out : own_domain settings peer ≢ Some domain = λ own. both_ways (is_domain domain (own_domain settings peer)) never (is_own_domain domain (own_domain settings peer) own) in
+              ([], isolation.of_another out refl, ap (part_of settings domain) e ∙ hearing_other settings domain now peer out)
+      heard_first met (machine.unreadable fault breaks e) = ([], isolation.unreadable fault breaks refl, ap (part_of settings domain) e)
+      heard_first met (machine.by_stranger unknown e) = (
+        [],
+        isolation.of_another (λ own. none-some domain (sym (ap domain_of_client (stranger_is (role_of settings peer) unknown)) ∙ own)) refl,
+        ap (part_of settings domain) e,
+      )
+
+      joined : Heard a.met → IsolatedBy settings domain a.met handling new (OneOrNone settings domain a.met handling new) → IsolatedIn (event.Datagram peer datagram)
+      joined (signals, first, made) (requests, take, make) = (
+        signals,
+        requests,
+        first,
+        take,
+        make_then settings domain (part_of settings domain old) (part_of settings domain a.met) (part_of settings domain new) signals (map asks requests) made
+            (requests_behind a.met requests heard_is make),
+      )
+
   by_piece : (conn : ℕ) (piece : List ℕ) (owed : List (State × OwnedOut)) → outs_of owed ≡ handling.sends → Step settings old (event.Piece conn piece) handling.at owed new
-      → IsolatedBy (PieceTakesUp settings domain conn (receiving conn piece now) handling.sends)
+      → IsolatedIn (event.Piece conn piece)
   by_piece conn piece owed sent step =
       let x : Takes settings conn (receiving conn piece now) step.0 new = step.2 in
       let all = fronts_isolated settings domain conn (receiving conn piece now) x.answered x.rested x.fronts in (
+        [],
         all.0,
+        refl,
         record {
           turns = x.answered;
           rested = x.rested;
@@ -433,42 +544,61 @@ module _ (settings : SettingsValue) (domain : ℕ) (old : State) (handling : Han
           notices = x.notices;
           sends_are = sym sent ∙ ap outs_of step.1 ∙ takes_outs settings conn (receiving conn piece now) step.0 new x;
         },
-        subst (Make settings domain (alone domain old.history) all.0) (sym (ap (alone domain) (told_history settings x.rested new x.notices x.notified))) all.2,
+        requests_behind old all.0
+            (ap (λ (part : Part). part.heard) (told_part settings domain x.rested new x.notices x.notified)
+            ∙ heard_of settings domain x.rested old (fronts_contacts settings conn (receiving conn piece now) x.answered x.rested x.fronts))
+            (subst (MakeEntries settings domain (alone domain old.history) all.0) (sym (ap (alone domain) (told_history settings x.rested new x.notices x.notified))) all.2),
       )
 
-  by_event : (what : Event) (owed : List (State × OwnedOut)) → handling.what ≡ what → outs_of owed ≡ handling.sends → Step settings old what handling.at owed new
-      → IsolatedBy (TakesUpAll settings domain old handling new what)
-  by_event (event.Datagram peer datagram) owed is sent step =
-      let a = step.2 in
-      one_or_none (by_decision peer datagram is a.replies a.notices (sym sent ∙ ap outs_of step.1 ∙ outs_back new step.0 ∙ a.sends_are) a.decided (number_of settings a.asked a.met.observers) a.replies_are
-      (answer_history settings now peer datagram step.0 new a)
-      (answer_time settings now peer datagram step.0 new a)
-      a.decides)
-  by_event event.End owed is sent step = one_or_none (nothing_asked event.End is (λ p d e. cc e) (ap (λ (state : State). state.history) step.1))
-  by_event event.Failed owed is sent step = one_or_none (nothing_asked event.Failed is (λ p d e. cc e) (ap (λ (state : State). state.history) step.1))
-  by_event (event.Opened c p) owed is sent step = one_or_none (nothing_asked (event.Opened c p) is (λ p d e. cc e) (opens_history now p c step.0 new step.2))
+  by_event : (what : Event) (owed : List (State × OwnedOut)) → handling.what ≡ what → outs_of owed ≡ handling.sends → Step settings old what handling.at owed new → IsolatedIn what
+  by_event (event.Datagram peer datagram) owed is sent step = by_datagram_heard peer datagram owed is sent step
+  by_event event.End owed is sent step =
+      let one = quiet event.End is (λ p d e. cc e) (ap (λ (state : State). state.history) step.1) in
+      ([], one.0, refl, one.1, requests_behind old one.0 (ap (heard_in settings domain) step.1) one.2)
+  by_event event.Failed owed is sent step =
+      let one = quiet event.Failed is (λ p d e. cc e) (ap (λ (state : State). state.history) step.1) in
+      ([], one.0, refl, one.1, requests_behind old one.0 (ap (heard_in settings domain) step.1) one.2)
+  by_event (event.Opened c p) owed is sent step =
+      let one = quiet (event.Opened c p) is (λ p d e. cc e) (opens_history now p c step.0 new step.2) in
+      ([], one.0, refl, one.1, requests_behind old one.0 (ap (heard_in settings domain) step.2.1) one.2)
   by_event (event.Piece c p) owed is sent step = by_piece c p owed sent step
-  by_event (event.Closed c) owed is sent step = one_or_none (nothing_asked (event.Closed c) is (λ p d e. cc e) (ap (λ (state : State). state.history) step.1))
-  by_event event.Tick owed is sent step = one_or_none (nothing_asked event.Tick is (λ p d e. cc e) (tick_history settings now step.0 new step.2))
-  by_event event.Restart owed is sent step = one_or_none (nothing_asked event.Restart is (λ p d e. cc e) (ap (λ (state : State). state.history) step.1))
+  by_event (event.Closed c) owed is sent step =
+      let one = quiet (event.Closed c) is (λ p d e. cc e) (ap (λ (state : State). state.history) step.1) in
+      ([], one.0, refl, one.1, requests_behind old one.0 (ap (heard_in settings domain) step.1) one.2)
+  by_event event.Tick owed is sent step =
+      let time_is = tick_time settings now step.0 new step.2 in (
+        ticks new.time ∷ [],
+        [],
+        refl,
+        inr (refl, none_came (λ asks. no_datagram event.Tick is (λ p d e. cc e) asks)),
+        (
+          part_lapsed settings new.time (part_of settings domain old),
+          refl,
+          tick_part settings domain now step.0 new step.2 ∙ ap (λ t. part_lapsed settings t (part_of settings domain old)) (sym time_is),
+        ),
+      )
+  by_event event.Restart owed is sent step = (
+    restarts ∷ [],
+    [],
+    refl,
+    inr (refl, none_came (λ asks. no_datagram event.Restart is (λ p d e. cc e) asks)),
+    (part_restarted settings domain (part_of settings domain old), refl, ap (part_of settings domain) step.1),
+  )
 
-  pub one_handling_isolated : IsHandling settings old handling new → IsolatedBy (TakesUpAll settings domain old handling new handling.what)
+  pub one_handling_isolated : IsHandling settings old handling new → IsolatedIn handling.what
   one_handling_isolated is = by_event handling.what is.owed refl is.sent is.step
 
 module _ (settings : SettingsValue) (domain : ℕ) where
-  make_then : (before between after : List Entry) (first rest : List TakenUp) → Make settings domain before first between → Make settings domain between rest after
-      → Make settings domain before (first ++ rest) after
-  make_then before between after [] rest a b = subst (λ es. Make settings domain es rest after) a b
-  make_then before between after (taken ∷ first) rest a b = (a.0, a.1, make_then (before ++ a.0) between after first rest a.2 b)
-
   handlings_isolated : (old : State) (handlings : List Handling) (new : State) → EachHandling (IsHandling settings) old handlings new → IsIsolated settings old handlings new domain
-  handlings_isolated old [] new is = record { requests = []; are = (refl, is); make = ap (λ (state : State). alone domain state.history) is }
+  handlings_isolated old [] new is = record { turns = []; are = (refl, is); make = ap (part_of settings domain) is }
   handlings_isolated old (handling ∷ handlings) new each =
       let one = one_handling_isolated settings domain old handling each.0 each.1 in
       let rest = handlings_isolated each.0 handlings new each.2 in record {
-        requests = one.0 ++ rest.requests;
-        are = (each.0, each.1, one.0, rest.requests, refl, one.1, rest.are);
-        make = make_then (alone domain old.history) (alone domain each.0.history) (alone domain new.history) one.0 rest.requests one.2 rest.make;
+        turns = one.0 ++ (map asks one.1 ++ rest.turns);
+        are = (each.0, each.1, one.0, one.1, rest.turns, refl, one.2, one.3, rest.are);
+        make =
+            subst (λ turns. Make settings domain (part_of settings domain old) turns (part_of settings domain new)) (append_assoc one.0 (map asks one.1) rest.turns)
+            (make_then settings domain (part_of settings domain old) (part_of settings domain each.0) (part_of settings domain new) (one.0 ++ map asks one.1) rest.turns one.4 rest.make);
       }
 
 pub run_isolated : (settings : SettingsValue) (domain : ℕ) (from : State) (acts : List Timed) (trace : List State) (new : State) → Trace (Step settings) (resting from) acts trace (resting new)

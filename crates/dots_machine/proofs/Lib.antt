@@ -15,6 +15,8 @@ pub mod RepeatAnswers
 pub mod Outcomes
 pub mod Verdicts
 pub mod Hearing
+pub mod Returning
+pub mod Parting
 pub mod Handlings
 pub mod Adding
 pub mod Isolation

@@ -1,5 +1,5 @@
 -- What is asked of observation is one thing, and to be told changes neither the history nor the time.
-use Rattle.std.proofs.Common.{◌≡◌, ℕ, ◌==◌, Bool, true, false, cond, List, [], ◌∷◌, ◌++◌, map, Option, Some, None, Result, Ok, Err, refl, sym, ap, ◌∙◌, subst, inl, inr}
+use Rattle.std.proofs.Common.{◌≡◌, ℕ, ◌==◌, Bool, true, false, cond, List, [], ◌∷◌, ◌++◌, map, Option, Some, None, Result, Ok, Err, refl, sym, ap, ◌∙◌, subst, inl, inr, is_some}
 use Rattle.std.specs.Prelude.{filter_map}
 use Rattle.std.proofs.lemmas.Bool.{false≢true}
 use Rattle.dots_host.specs.declared.out.OwnedOut.{OwnedOut}
@@ -13,7 +13,6 @@ use Rattle.session_core.specs.declared.contact.Beat.{Beat}
 use Rattle.session_core.specs.declared.contact.PeerContact.{PeerContact}
 use Rattle.session_core.specs.Contacts.{numbered}
 use Rattle.session_core.specs.Beating.{Beating, due_beat}
-use Rattle.session_core.specs.Spacing.{without_lost}
 use Rattle.dots_notices.specs.Beats.{beat_sent, beats}
 use Rattle.dots_notices.specs.Notices.{content_notice, gone_notice}
 use Rattle.dots_notices.specs.Notifying.{Bodies, is_gone, notice, Notifies, Apart}
@@ -103,7 +102,7 @@ module _ (settings : SettingsValue) (peer : ℕ) (x : Exchange) where
   completed_asks : (operation : Operation) (content : Content) (said : Observe) (payload : List ℕ) (answer : Result Request Reject) → Completes operation content said payload answer
       → asked_of settings peer x content said operation ≡ of_answer answer
   completed_asks (put_mitigation path) content said payload answer a =
-      other_asks answer (body_is_other payload (put_mitigation_with path) answer (λ tree. read_is_other (mitigation_of tree) (request.PutMitigation path) (λ body. tt)) a)
+      other_asks answer (body_is_other payload (put_mitigation_with path) answer (λ tree. read_is_other (mitigation_of (is_some path.cdid) tree) (request.PutMitigation path) (λ body. tt)) a)
   completed_asks (get_mitigation path) content said payload answer a = sym (ap of_answer a)
   completed_asks (delete_mitigation path) content said payload answer a = sym (ap of_answer a)
   completed_asks (put_config sid) content said payload answer a =
@@ -274,4 +273,4 @@ sent_beats [] = tt
 sent_beats (b ∷ given) = (refl, sent_beats given)
 
 pub all_beats : (by : Beating) (now : ℕ) (contacts : List PeerContact) → AllBeats (beats by now contacts)
-all_beats by now contacts = sent_beats (filter_map (due_beat by now) (map (without_lost by now) contacts))
+all_beats by now contacts = sent_beats (filter_map (due_beat by now) contacts)

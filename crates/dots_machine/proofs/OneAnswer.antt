@@ -116,10 +116,7 @@ module _ (settings : SettingsValue) (state : State) (peer : ℕ) (datagram : Lis
       by_verdicts (one_verdict settings b.met peer datagram are a.decided b.decided
       (subst (λ met. Decides settings met peer datagram a.decided) (hears_once settings peer datagram state a.met b.met a.hears b.hears) a.decides) b.decides)
     where
-      abbrev gateway : Bool
-      gateway = is_gateway (role_of settings peer)
-
-      by_verdicts : (a.decided ≡ b.decided) ⊎ (LacksMemory datagram gateway a.decided ⊎ LacksMemory datagram gateway b.decided)
+      by_verdicts : (a.decided ≡ b.decided) ⊎ (LacksMemory datagram (is_gateway (role_of settings peer)) a.decided ⊎ LacksMemory datagram (is_gateway (role_of settings peer)) b.decided)
           → HaveOneAnswer settings (event.Datagram peer datagram) sends new others last ⊎ (SaysUnavailable peer datagram sends ⊎ SaysUnavailable peer datagram others)
       by_verdicts (inl same) = inl (record {
         replies = b.replies;

@@ -1,5 +1,5 @@
 -- A run keeps the mitigations that stand apart.
-use Rattle.std.proofs.Common.{◌≡◌, ◌⊎◌, inl, inr, ℕ, Bool, true, false, cond, List, [], ◌∷◌, ◌++◌, Option, Some, None, Result, Ok, Err, refl, sym, ap, ◌∙◌, subst, arith}
+use Rattle.std.proofs.Common.{◌≡◌, ◌⊎◌, inl, inr, ℕ, Bool, true, false, cond, List, [], ◌∷◌, ◌++◌, Option, Some, None, Result, Ok, Err, refl, sym, ap, ◌∙◌, subst, arith, append-nil, append_assoc, map}
 use Rattle.std.proofs.lemmas.Bool.{false≢true}
 use Rattle.std.proofs.lemmas.Option.{none-some}
 use Rattle.coap_message.specs.declared.kind.Kind.{Kind}
@@ -45,7 +45,7 @@ use Rattle.dots_machine.specs.Domains.{domain_for, config_domain}
 use Rattle.target_rules.specs.Targets.{scope_fault}
 use Rattle.dots_machine.specs.MessageRepeats.{sent_for, unless_repeated}
 use Rattle.dots_machine.specs.Mitigations.{entry_of, sent_by, request_of, refusal, judged, client_for, get_reply, unless_faulty, put_answer, is_taken, delete_by, delete_answer, get_by, get_answer}
-use Rattle.dots_machine.specs.Machine.{State, afresh, later, restarted, with_entry, option_verdict, reject_verdict, dismissal_verdict, Decides, by_silence, by_rules, for_want_of_memory, after, AnswersFront, receiving, Takes, Step, facts_in, rules_say}
+use Rattle.dots_machine.specs.Machine.{State, afresh, later, restarted, with_entry, option_verdict, reject_verdict, dismissal_verdict, Decides, by_silence, by_rules, for_want_of_memory, after, AnswersFront, receiving, Takes, Step, facts_in, rules_say, Hears, lapsed}
 use Rattle.dots_machine.specs.Orderly.{ShareNone, HigherStays, IsOrderly}
 use Rattle.dots_machine.specs.Handlings.{Handling, IsHandling, EachHandling, handlings_of}
 use Rattle.dots_machine.specs.Replies.{configuration_reply, absent}
@@ -53,7 +53,9 @@ use Rattle.dots_machine.specs.Sessions.{Configured, sid_of, is_held}
 use Rattle.dots_machine.specs.Facts.{Facts}
 use Rattle.dots_machine.specs.Deciding.{in_domain, with_mid, put_in, put_for, delete_in, delete_for, get_for, config_answer, put_config_for, clear_answer, delete_config_for, config_view, get_config_for, answer_to, asks_for}
 use Rattle.dots_machine.proofs.Verdicts.{are_facts, valued}
-use Rattle.dots_machine.proofs.Hearing.{answer_history, answer_time, tick_history, tick_time}
+use Rattle.dots_machine.proofs.Hearing.{answer_history, answer_time, tick_history, tick_time, hears_adds, hears_time, same_time_after}
+use Rattle.dots_machine.proofs.Returning.{AreOfSignals, puts_none, back_signals, history_lapses}
+use Rattle.dots_machine.specs.Signals.{back_of, last_heard}
 use Rattle.dots_machine.proofs.Connections.{opens_history, opens_time}
 use Rattle.dots_machine.proofs.Observing.{told_history, told_time}
 use Rattle.dots_machine.proofs.Fronts.{front_time}
@@ -288,14 +290,42 @@ fronts_orderly settings conn state [] new x orderly = subst IsOrderly (sym x) or
 fronts_orderly settings conn state (turn ∷ turns) new x orderly =
     fronts_orderly settings conn turn.left turns new x.1 (front_orderly settings conn state turn.sends turn.left x.0 orderly)
 
+-- ---- signals that are lost, and that are back
+abbrev with_entries : State → List Entry → State
+with_entries state extra = record state { history = state.history ++ extra }
+
+signals_orderly : (settings : SettingsValue) (state : State) (extra : List Entry) → AreOfSignals state.time extra → IsOrderly state → IsOrderly (with_entries state extra)
+signals_orderly settings state [] are orderly = orderly_as state (with_entries state []) (append-nil state.history) refl orderly
+signals_orderly settings state (e ∷ extra) are orderly =
+    orderly_as (with_entries (with_entry state e) extra) (with_entries state (e ∷ extra)) (sym (append_assoc state.history (e ∷ []) extra)) refl
+    (signals_orderly settings (with_entry state e) extra are.1 (none_keeps settings state e (are.0.now, puts_none state.time e are.0) orderly))
+
+heard_orderly : (settings : SettingsValue) (state : State) (peer : ℕ) (datagram : List ℕ) (met : State) → Hears settings state peer datagram met → IsOrderly state → IsOrderly met
+heard_orderly settings state peer datagram met hears orderly = by_which (hears_adds settings peer datagram state met hears)
+  where
+    same_time : met.time ≡ state.time
+    same_time = hears_time settings peer datagram state met hears
+
+    by_which : (met.history ≡ state.history) ⊎ (met.history ≡ state.history ++ back_of settings state.time state.history peer) → IsOrderly met
+    by_which (inl same) = orderly_as state met same same_time orderly
+    by_which (inr more) =
+        orderly_as (with_entries state (back_of settings state.time state.history peer)) met more same_time
+        (signals_orderly settings state (back_of settings state.time state.history peer) (back_signals settings state.time state.history peer) orderly)
+
+lapsed_orderly : (settings : SettingsValue) (state : State) → IsOrderly state → IsOrderly (lapsed settings state)
+lapsed_orderly settings state orderly =
+    let more = history_lapses settings state.time state.history (map last_heard state.contacts) in
+    orderly_as (with_entries state more.0) (lapsed settings state) more.1 refl (signals_orderly settings state more.0 more.2 orderly)
+
 pub step_orderly : (settings : SettingsValue) (old : State) (event : Event) (at : ℕ) (owed : List (State × OwnedOut)) (new : State) → IsOrderly old → Step settings old event at owed new → IsOrderly new
 step_orderly settings old (event.Datagram peer datagram) at owed new orderly step =
     let a = step.2 in
     let now = later old at in
-    orderly_as (after a.decided now) new
+    orderly_as (after a.decided a.met) new
     (answer_history settings now peer datagram step.0 new a)
-    (answer_time settings now peer datagram step.0 new a)
-    (verdict_keeps settings now a.decided (accepts_as settings now peer datagram a.decided a.decides) (later_orderly old at orderly))
+    (answer_time settings now peer datagram step.0 new a ∙ same_time_after a.decided now a.met (sym (hears_time settings peer datagram now a.met a.hears)))
+    (verdict_keeps settings a.met a.decided (accepts_as settings a.met peer datagram a.decided a.decides)
+    (heard_orderly settings now peer datagram a.met a.hears (later_orderly old at orderly)))
 step_orderly settings old event.End at owed new orderly step = subst IsOrderly (sym step.1) orderly
 step_orderly settings old event.Failed at owed new orderly step = subst IsOrderly (sym step.1) orderly
 step_orderly settings old (event.Opened c p) at owed new orderly step =
@@ -308,7 +338,8 @@ step_orderly settings old (event.Piece c p) at owed new orderly step =
 step_orderly settings old (event.Closed c) at owed new orderly step =
     orderly_as (later old at) new (ap (λ (s : State). s.history) step.1) (ap (λ (s : State). s.time) step.1) (later_orderly old at orderly)
 step_orderly settings old event.Tick at owed new orderly step =
-    orderly_as (later old at) new (tick_history settings (later old at) step.0 new step.2) (tick_time settings (later old at) step.0 new step.2) (later_orderly old at orderly)
+    orderly_as (lapsed settings (later old at)) new (tick_history settings (later old at) step.0 new step.2) (tick_time settings (later old at) step.0 new step.2)
+    (lapsed_orderly settings (later old at) (later_orderly old at orderly))
 step_orderly settings old event.Restart at owed new orderly step = subst IsOrderly (sym step.1) (restarted_orderly settings old at orderly)
 
 handlings_orderly : (settings : SettingsValue) (old : State) (handlings : List Handling) (new : State) → IsOrderly old → EachHandling (IsHandling settings) old handlings new → IsOrderly new

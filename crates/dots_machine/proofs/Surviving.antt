@@ -1,5 +1,5 @@
 -- What a crash leaves, one part of a run after the other.
-use Rattle.std.proofs.Common.{◌≡◌, ℕ, ◌+◌, ◌<◌, ◌≤◌, ◌⊎◌, inl, inr, Bool, true, false, zero, suc, if◌then◌else◌, max, List, [], ◌∷◌, ◌++◌, length, take, Option, Some, None, refl, sym, ap, ◌∙◌, subst, arith, append_assoc, append-nil, length-append, le_refl}
+use Rattle.std.proofs.Common.{◌≡◌, ℕ, ◌+◌, ◌<◌, ◌≤◌, ◌⊎◌, inl, inr, Bool, true, false, zero, suc, if◌then◌else◌, max, List, [], ◌∷◌, ◌++◌, length, take, Option, Some, None, refl, sym, ap, ◌∙◌, subst, arith, append_assoc, append-nil, length-append, le_refl, map}
 use Rattle.std.specs.Prelude.{nat_lt}
 use Rattle.std.proofs.Math.Path.{fun_ext}
 use Rattle.std.proofs.lemmas.Bool.Decides.{nat_tests}
@@ -23,8 +23,10 @@ use Rattle.dots_machine.specs.declared.verdict.Verdict.TheVariants as verdict
 use Rattle.dots_machine.specs.declared.ending.Stop.{Stop}
 use Rattle.dots_machine.specs.declared.ending.Stop.TheVariants as stop
 use Rattle.dots_machine.specs.Endings.{Stops, EndsBehind, Ran}
-use Rattle.dots_machine.specs.Machine.{State, later, after, AnswersFront, receiving, Takes, Step}
-use Rattle.dots_machine.proofs.Hearing.{answer_history, answer_time, tick_history, tick_time}
+use Rattle.dots_machine.specs.Machine.{State, later, after, AnswersFront, receiving, Takes, Step, Hears, lapsed}
+use Rattle.dots_machine.proofs.Hearing.{answer_history, answer_time, tick_history, tick_time, hears_adds, after_time}
+use Rattle.dots_machine.proofs.Returning.{history_lapses}
+use Rattle.dots_machine.specs.Signals.{back_of, last_heard}
 use Rattle.dots_machine.proofs.Connections.{opens_history, opens_time}
 use Rattle.dots_machine.proofs.Fronts.{owed_then, fronts_grow, takes_grows, takes_time}
 use Rattle.dots_machine.proofs.Observing.{told_history}
@@ -222,26 +224,34 @@ verdict_grows (verdict.LongReply reply) state = same_grows state state refl
 verdict_grows (verdict.Retrieves y body) state = same_grows state state refl
 verdict_grows (verdict.Accept reply entry) state = (entry ∷ [], refl)
 
+heard_grows : (settings : SettingsValue) (state : State) (peer : ℕ) (datagram : List ℕ) (met : State) → Hears settings state peer datagram met → Grows state met
+heard_grows settings state peer datagram met hears = by_which (hears_adds settings peer datagram state met hears)
+  where
+    by_which : (met.history ≡ state.history) ⊎ (met.history ≡ state.history ++ back_of settings state.time state.history peer) → Grows state met
+    by_which (inl same) = same_grows state met same
+    by_which (inr more) = (back_of settings state.time state.history peer, more)
+
+lapsed_grows : (settings : SettingsValue) (state : State) → Grows state (lapsed settings state)
+lapsed_grows settings state = let more = history_lapses settings state.time state.history (map last_heard state.contacts) in (more.0, more.1)
+
 -- a step adds to the history, or leaves it
 pub step_grows : (settings : SettingsValue) (old : State) (what : Event) (at : ℕ) (owed : List (State × OwnedOut)) (new : State) → Step settings old what at owed new → (extra : List Entry) × (new.history ≡ old.history ++ extra)
 step_grows settings old (event.Datagram peer datagram) at owed new step =
     let now = later old at in
-    let grown = verdict_grows step.2.decided now in
-    (grown.0, answer_history settings now peer datagram step.0 new step.2 ∙ grown.1)
+    let a = step.2 in
+    let met = heard_grows settings now peer datagram a.met a.hears in
+    let grown = verdict_grows a.decided a.met in (
+      met.0 ++ grown.0,
+      answer_history settings now peer datagram step.0 new a ∙ grown.1 ∙ ap (λ es. es ++ grown.0) met.1 ∙ append_assoc old.history met.0 grown.0,
+    )
 step_grows settings old event.End at owed new step = same_grows old new (ap (λ (state : State). state.history) step.1)
 step_grows settings old event.Failed at owed new step = same_grows old new (ap (λ (state : State). state.history) step.1)
 step_grows settings old (event.Opened c p) at owed new step = same_grows old new (opens_history (later old at) p c step.0 new step.2)
 step_grows settings old (event.Piece c p) at owed new step = takes_grows settings c (receiving c p (later old at)) step.0 new step.2
 step_grows settings old (event.Closed c) at owed new step = same_grows old new (ap (λ (state : State). state.history) step.1)
-step_grows settings old event.Tick at owed new step = same_grows old new (tick_history settings (later old at) step.0 new step.2)
+step_grows settings old event.Tick at owed new step =
+    let grown = lapsed_grows settings (later old at) in (grown.0, tick_history settings (later old at) step.0 new step.2 ∙ grown.1)
 step_grows settings old event.Restart at owed new step = same_grows old new (ap (λ (state : State). state.history) step.1)
-
-after_time : (v : Verdict) (state : State) → (after v state).time ≡ state.time
-after_time verdict.Silent state = refl
-after_time (verdict.Reply reply) state = refl
-after_time (verdict.LongReply reply) state = refl
-after_time (verdict.Retrieves y body) state = refl
-after_time (verdict.Accept reply entry) state = refl
 
 moved_on : (old new : State) (at : ℕ) → last_time old.history ≤ old.time → new.time ≡ max at old.time → last_time old.history ≤ new.time
 moved_on old new at timely is = omega (arith, timely, is)

@@ -20,10 +20,14 @@ use Rattle.dots_machine.specs.Machine.{State, later, Hears, Decides, sends_of, a
 use Rattle.dots_machine.specs.Parts.{heard_in}
 use Rattle.dots_machine.specs.declared.received.Received.TheVariants as received
 
--- two states of one time that have the same entries of a domain, and in which its clients were heard at the same times
-pub record SameFor (settings : SettingsValue) (domain : ℕ) (one other : State) : Type 0 where
+-- two states of one time that have the same entries of a domain
+pub record SameFor (domain : ℕ) (one other : State) : Type 0 where
   pub time : one.time ≡ other.time
   pub entries : alone domain one.history ≡ alone domain other.history
+
+-- and in which its clients were heard at the same times
+pub record HaveOnePart (settings : SettingsValue) (domain : ℕ) (one other : State) : Type 0 where
+  pub same : SameFor domain one other
   pub heard : heard_in settings domain one ≡ heard_in settings domain other
 
 -- for which domain a peer of this role makes a request: for mitigations, or for its session
@@ -71,7 +75,7 @@ pub data StaysApart (settings : SettingsValue) (domain : ℕ) (old other : State
   decided_alike : (peer : ℕ) (datagram : List ℕ) (met left : State) (decided : Verdict) (number : Option ℕ) (notices : List OwnedOut) → what ≡ event.Datagram peer datagram
       → Hears settings (later old at) peer datagram met → Hears settings (later other at) peer datagram left
       → Decides settings met peer datagram decided → Decides settings left peer datagram decided
-      → sends ≡ sends_of number decided peer ++ notices → SameFor settings domain new (after decided left)
+      → sends ≡ sends_of number decided peer ++ notices → HaveOnePart settings domain new (after decided left)
       → StaysApart settings domain old other what at sends new
   piece_elsewhere : (conn : ℕ) (piece : List ℕ) → what ≡ event.Piece conn piece → AsksElsewhere settings domain conn old → alone domain new.history ≡ alone domain old.history
       → StaysApart settings domain old other what at sends new
@@ -79,7 +83,7 @@ pub data StaysApart (settings : SettingsValue) (domain : ℕ) (old other : State
       → AsksOn settings domain conn old
       → Chain (AnswersFront settings conn) (receiving conn piece (later old at)) turns rested
       → Chain (AnswersFront settings conn) (receiving conn piece (later (connected_as old other) at)) others left
-      → outs_of (owed_in turns) ≡ outs_of (owed_in others) → sends ≡ outs_of (owed_in turns) ++ notices → SameFor settings domain new left
+      → outs_of (owed_in turns) ≡ outs_of (owed_in others) → sends ≡ outs_of (owed_in turns) ++ notices → HaveOnePart settings domain new left
       → StaysApart settings domain old other what at sends new
-  lapsed_alike : what ≡ event.Tick → SameFor settings domain new (lapsed settings (later other at)) → StaysApart settings domain old other what at sends new
+  lapsed_alike : what ≡ event.Tick → HaveOnePart settings domain new (lapsed settings (later other at)) → StaysApart settings domain old other what at sends new
   without_request : IsNoRequest what → alone domain new.history ≡ alone domain old.history → StaysApart settings domain old other what at sends new

@@ -23,7 +23,7 @@ ghost use Rattle.dots_history.specs.Histories.{Kept, tally};
 ghost use Rattle.dots_notices.specs.Notifying.{Apart};
 ghost use Rattle.dots_machine.specs.Surviving.{MeansAt, shown, time_at};
 ghost use Rattle.dots_machine.specs.Endings.{GivesSettings, IsReady};
-ghost use Rattle.dots_machine.specs.Apart.{domain_of, SameFor, StaysApart};
+ghost use Rattle.dots_machine.specs.Apart.{domain_of, SameFor, HaveOnePart, StaysApart};
 ghost use Rattle.dots_machine.specs.Answering.{AreBytes, IsHandedIn, IsUnavailable, HaveOneAnswer, Differ};
 ghost use Rattle.dots_machine.specs.Domains.{is_gateway, is_stranger};
 ghost use Rattle.dots_machine.specs.Requests.{IsReceived};
@@ -62,22 +62,24 @@ pub fn one_answer()
         → HaveOneAnswer settings event (outs_of owed) new (outs_of others) other ⊎ Differ settings (later old at) event (outs_of owed) (outs_of others) }
 {}
 
-/// The domains stay apart: of two states of one time that have the same entries of a domain, a step from the one is for another
-/// domain, and leaves the entries of this one as they were, or its datagram is decided on from the other in the same way, the sends begin with the
+/// The domains stay apart: of two states of one time that have the same entries of a domain, and in which its clients were heard at the same times,
+/// a step from the one is for another domain, and leaves the entries of this one as they were, or its datagram is decided on from the other in the same way, the sends begin with the
 /// replies of that verdict, and it leaves this domain the same on both. So it is with a piece of a connection, where the other state has the same
-/// connections: it is of another domain, or its turns are the same from both. Or neither came, and the entries of this one are as they were. Behind
+/// connections: it is of another domain, or its turns are the same from both. At a tick the same signals of it are lost from both. Or none of these came,
+/// and the entries of this one are as they were. Behind
 /// the replies stand notifications, and at a tick heartbeats, which go to peers of all domains. And the same rows of mitigations filter for it in both.
 pub fn domains_stay_apart()
     ensures step { (settings : SettingsValue) (domain : ℕ) (old other : State) (event : Event) (at : ℕ) (owed : List (State × OwnedOut)) (new : State)
-        → SameFor settings domain old other → Step settings old event at owed new → StaysApart settings domain old other event at (outs_of owed) new }
-    ensures rows { (settings : SettingsValue) (domain : ℕ) (one other : State) → SameFor settings domain one other
+        → HaveOnePart settings domain old other → Step settings old event at owed new → StaysApart settings domain old other event at (outs_of owed) new }
+    ensures rows { (domain : ℕ) (one other : State) → SameFor domain one other
         → filter (λ row. row.domain == domain) (plain_rows one.time one.history) ≡ filter (λ row. row.domain == domain) (plain_rows other.time other.history) }
 {}
 
 /// A message that is accepted is repeated by each message of its peer for its domain with its Message ID, for 247 seconds if it was confirmable
 /// and for 145 if it wasn't, as long as fewer accepted ones of that peer and domain come after it than are remembered, and none of these
 /// with that Message ID. And a repeat, whatever it asks to change, is answered with the bytes that answered the message, by the rules, over
-/// each step and over each handling of a run, nothing is added to the history, and notifications may follow; or 5.00 is answered, for want of memory.
+/// each step and over each handling of a run, nothing is added to the history but that its peer's signal is back, where it was lost, and notifications may
+/// follow; or 5.00 is answered, for want of memory.
 pub fn repeats_are_answered()
     ensures accepted { (settings : SettingsValue) (state : State) (peer : ℕ) (exchange : Exchange) (asked : Request) (reply : List ℕ) (entry : Entry)
         → DecidesRequest settings state peer exchange asked (verdict.Accept reply entry)
@@ -101,7 +103,7 @@ pub fn repeats_are_answered()
 {}
 
 /// An entry is added to the history exactly where the rules accept what came, at its time, with that entry; or 5.00 was answered, for
-/// want of memory. So it is with each request of a piece, which is answered 500 for want of memory. It holds of each handling, and so of each
+/// want of memory. And it is added that a signal is lost, or back, exactly where it is. So it is with each request of a piece, which is answered 500 for want of memory. It holds of each handling, and so of each
 /// handling of a run.
 pub fn entries_are_accepted()
     ensures handling { (settings : SettingsValue) (old : State) (handling : Handling) (new : State) → IsHandling settings old handling new → AddsExactly settings old handling new }
@@ -109,8 +111,9 @@ pub fn entries_are_accepted()
         → Trace (Step settings) (resting from) acts trace (resting new) → EachHandling (AddsExactly settings) from (handlings_of acts) new }
 {}
 
-/// Over a whole run the entries of a domain are what its own requests make, of the signal channel and of the data channel, each with the time that
-/// the whole run gave it, and each of these is answered by the domain's entries alone.
+/// Over a whole run what a domain has (its entries, and when its clients were heard) is what its own turns make: the messages of its clients, its
+/// requests of the signal channel and of the data channel, the ticks and the restarts, each with the time that the whole run gave it. And each of the
+/// requests is answered by the domain's entries alone.
 pub fn domains_are_isolated()
     ensures { (settings : SettingsValue) (domain : ℕ) (from : State) (acts : List Timed) (trace : List State) (new : State)
         → Trace (Step settings) (resting from) acts trace (resting new) → IsIsolated settings from (handlings_of acts) new domain }

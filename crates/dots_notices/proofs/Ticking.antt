@@ -8,24 +8,12 @@ use Rattle.dots_host.specs.Runs.{Added}
 use Rattle.cbor_profile.specs.Head.{head, information, following}
 use Rattle.session_core.specs.declared.contact.Beat.{Beat}
 use Rattle.session_core.specs.declared.contact.PeerContact.{PeerContact}
-use Rattle.session_core.specs.Beating.{Beating, IsNextLost, NoneLost, IsNextBeat, NoneBeats}
-use Rattle.session_core.specs.Spacing.{LosesAll, BeatsAll}
-use Rattle.session_core.proofs.Ticking.{ticked}
+use Rattle.session_core.specs.Beating.{Beating, IsNextBeat, NoneBeats}
+use Rattle.session_core.specs.Spacing.{BeatsAll}
+use Rattle.session_core.proofs.Ticking.{beaten}
 use Rattle.dots_notices.specs.Notifying.{SentTo}
 use Rattle.dots_notices.specs.Beats.{beat_with, beat_bytes, beat_sent, beats, after_beats}
 use Rattle.dots_notices.proofs.Sends.{sent_then}
-
--- these were lost so far, whatever is lost behind them
-abbrev pub LostTo : Beating → ℕ → List PeerContact → List ℕ → List PeerContact → Type 0
-LostTo by now old lost mid = (rest : List ℕ) (new : List PeerContact) → LosesAll by now mid rest new → LosesAll by now old (lost ++ rest) new
-
-pub lost_more : (by : Beating) (now : ℕ) (old mid new : List PeerContact) (lost : List ℕ) (peer : ℕ) → LostTo by now old lost mid → IsNextLost by now mid new peer
-    → LostTo by now old (lost ++ peer ∷ []) new
-lost_more by now old mid new lost peer so next rest end left =
-    subst (λ xs. LosesAll by now old xs end) (sym (append_assoc lost (peer ∷ []) rest)) (so (peer ∷ rest) end (new, next, left))
-
-pub lost_last : (by : Beating) (now : ℕ) (old mid new : List PeerContact) (lost : List ℕ) → LostTo by now old lost mid → NoneLost by now mid new → LosesAll by now old lost new
-lost_last by now old mid new lost so none = subst (λ xs. LosesAll by now old xs new) (append-nil lost) (so [] new none)
 
 -- these heartbeats were due so far
 abbrev pub DueTo : Beating → ℕ → List PeerContact → List Beat → List PeerContact → Type 0
@@ -46,12 +34,12 @@ sent_more a b c first mid last given beat before one =
     subst (λ sends. Added a c (SentTo first last sends)) (sym (map-append beat_sent given (beat ∷ [])))
     (sent_then a b c first mid last (map beat_sent given) (beat_sent beat ∷ []) before one)
 
-pub all_sent : (by : Beating) (now : ℕ) (a b : Option (List Timed)) (first last : ℕ) (old mid new : List PeerContact) (lost : List ℕ) (given : List Beat)
-    → LosesAll by now old lost mid → BeatsAll by now mid given new → Added a b (SentTo first last (map beat_sent given))
+pub all_sent : (by : Beating) (now : ℕ) (a b : Option (List Timed)) (first last : ℕ) (old new : List PeerContact) (given : List Beat)
+    → BeatsAll by now old given new → Added a b (SentTo first last (map beat_sent given))
     → Added a b (SentTo first last (beats by now old)) × (new ≡ after_beats by now old)
-all_sent by now a b first last old mid new lost given loses due sent =
-    let all = ticked by now lost given old new (mid, loses, due) in
-    (subst (λ bs. Added a b (SentTo first last (map beat_sent bs))) all.1 sent, all.2)
+all_sent by now a b first last old new given due sent =
+    let all = beaten by now given old new due in
+    (subst (λ bs. Added a b (SentTo first last (map beat_sent bs))) all.0 sent, all.1)
 
 -- the same bytes
 pub sent_as : (a b : Option (List Timed)) (first last peer : ℕ) (bytes same : List ℕ) → bytes ≡ same → Added a b (SentTo first last (owned.To peer bytes ∷ []))

@@ -7,8 +7,8 @@ use Rattle.coap_observe.specs.Seen.{Lists}
 use Rattle.coap_observe.specs.Observed.{ObservedValue}
 use Rattle.session_core.specs.declared.contact.Contact.{Contact}
 use Rattle.session_core.specs.declared.contact.PeerContact.{PeerContact}
-use Rattle.session_core.specs.Beating.{Beating, has_lost, contact_forgotten, row_forgotten, has_due, contact_sent, row_sent}
-use Rattle.session_core.specs.Spacing.{without_lost, with_beat}
+use Rattle.session_core.specs.Beating.{Beating, has_due, contact_sent, row_sent}
+use Rattle.session_core.specs.Spacing.{with_beat}
 use Rattle.session_core.specs.Places.{row_peer}
 use Rattle.session_core.specs.Contacts.{is_of, with_row, number_in, number_at, number_of, contact_numbered, row_numbered}
 use Rattle.dots_notices.specs.Beats.{after_beats}
@@ -76,15 +76,10 @@ either_keeps : (b : Bool) (other row : PeerContact) → row_peer other ≡ row_p
 either_keeps true other row same keeps = (same, keeps)
 either_keeps false other row same keeps = (refl, λ is. is)
 
-forgotten_none : (contact : Option Contact) → option_map number_at contact ≡ None → option_map number_at (option_map contact_forgotten contact) ≡ None
-forgotten_none None is = refl
-forgotten_none (Some contact) is = absurd (cc)
-
 sent_none : (now : ℕ) (contact : Option Contact) → option_map number_at contact ≡ None → option_map number_at (option_map (contact_sent now) contact) ≡ None
 sent_none now None is = refl
 sent_none now (Some contact) is = absurd (cc)
 
 pub beaten_unheard : (by : Beating) (now peer : ℕ) (rows : List PeerContact) → number_of peer rows ≡ None → number_of peer (after_beats by now rows) ≡ None
 beaten_unheard by now peer rows none =
-    mapped_unheard peer (with_beat by now) (λ row. either_keeps (has_due by now row) (row_sent now row) row refl (sent_none now row.contact)) (map (without_lost by now) rows)
-    (mapped_unheard peer (without_lost by now) (λ row. either_keeps (has_lost by now row) (row_forgotten row) row refl (forgotten_none row.contact)) rows none)
+    mapped_unheard peer (with_beat by now) (λ row. either_keeps (has_due by now row) (row_sent now row) row refl (sent_none now row.contact)) rows none

@@ -13,7 +13,7 @@ use Rattle.reply_bodies.specs.Sessions.{beat_tree}
 use Rattle.session_core.specs.declared.contact.Beat.{Beat}
 use Rattle.session_core.specs.declared.contact.PeerContact.{PeerContact}
 use Rattle.session_core.specs.Beating.{Beating, due_beat}
-use Rattle.session_core.specs.Spacing.{without_lost, with_beat}
+use Rattle.session_core.specs.Spacing.{with_beat}
 
 -- a segment of the path (RFC 7252, section 5.10.1)
 abbrev pub uri_path : List ℕ → CoapOption
@@ -37,11 +37,10 @@ beat_bytes id heard = beat_with id (canon (beat_tree heard))
 abbrev pub beat_sent : Beat → OwnedOut
 beat_sent beat = owned.To beat.peer (beat_bytes beat.id beat.heard)
 
--- the heartbeats of a tick: sessions that are lost are forgotten before, and each peer that is due one then is sent one, in the order of
--- the settings
+-- the heartbeats of a tick: each peer that is due one is sent one, in the order of the settings
 abbrev pub beats : Beating → ℕ → List PeerContact → List OwnedOut
-beats by now contacts = map beat_sent (filter_map (due_beat by now) (map (without_lost by now) contacts))
+beats by now contacts = map beat_sent (filter_map (due_beat by now) contacts)
 
 -- what the tick leaves of the sessions
 abbrev pub after_beats : Beating → ℕ → List PeerContact → List PeerContact
-after_beats by now contacts = map (with_beat by now) (map (without_lost by now) contacts)
+after_beats by now contacts = map (with_beat by now) contacts

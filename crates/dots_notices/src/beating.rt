@@ -6,7 +6,7 @@ ghost use Rattle.dots_disk.specs.Becoming.{KeepsMedia};
 ghost use Rattle.session_core.specs.declared.contact.Beat.{Beat};
 ghost use Rattle.session_core.specs.Beating.{Beating, Agrees};
 ghost use Rattle.session_core.specs.Places.{row_peer};
-ghost use Rattle.session_core.specs.Spacing.{LosesAll, BeatsAll};
+ghost use Rattle.session_core.specs.Spacing.{BeatsAll};
 ghost use Rattle.dots_notices.specs.Notifying.{SentTo};
 ghost use Rattle.dots_notices.specs.Beats.{beat_with, beat_bytes, beat_sent, beats, after_beats};
 
@@ -25,8 +25,8 @@ const HEARD: [u8; 7] = [0xa1, 0x18, 0x31, 0xa1, 0x18, 0x33, 0xf5];
 
 const UNHEARD: [u8; 7] = [0xa1, 0x18, 0x31, 0xa1, 0x18, 0x33, 0xf4];
 
-/// Forgets the sessions that are lost at the time `now`, in seconds, and sends each peer the heartbeat that is due then, in the order of
-/// the settings (RFC 9132, section 4.7). Takes no memory. Whether a heartbeat left makes no difference.
+/// Sends each peer the heartbeat that is due at the time `now`, in seconds, in the order of the settings (RFC 9132, section 4.7). No session is
+/// forgotten. Takes no memory. Whether a heartbeat left makes no difference.
 pub fn beat<H: Host, C: Configs>(host: &mut H, sessions: &mut Sessions, configs: &C, now: u64)
     ensures sent { (by : Beating) → Agrees (C.Says configs.now) by
         → Added (H.acts host.old) (H.acts host.new) (SentTo (H.moment host.old) (H.moment host.new) (beats by now sessions.old)) }
@@ -39,18 +39,7 @@ pub fn beat<H: Host, C: Configs>(host: &mut H, sessions: &mut Sessions, configs:
     ensures wire { H.Wire.faults host.new ≡ H.Wire.faults host.old }
     ensures leads { H.leads host.old host.new }
 {
-    lose(sessions, configs, now);
     send_beats(host, sessions, configs, now);
-}
-
-/// Forgets each session that is lost.
-fn lose<C: Configs>(sessions: &mut Sessions, configs: &C, now: u64)
-    ensures lost { (lost : List ℕ) × ((by : Beating) → Agrees (C.Says configs.now) by → LosesAll by now sessions.old lost sessions.new) }
-    ensures peers { map row_peer sessions.new ≡ map row_peer sessions.old }
-{
-    while let Some(peer) = sessions.next_lost(configs, now) {
-        let _ = peer;
-    }
 }
 
 /// Sends each heartbeat that is due.

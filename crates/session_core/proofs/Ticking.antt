@@ -195,6 +195,15 @@ given_by_due by now (row ∷ rows) =
           ∙ sym (ap (λ o. cons_option o (given rows)) (no_beat (due_beat by now row) out))
     ]
 
+-- the heartbeats of a tick are those that are due, and each counts as sent
+pub beaten : (by : Beating) (now : ℕ) (given : List Beat) (old new : List PeerContact) → BeatsAll by now old given new
+    → (given ≡ filter_map (due_beat by now) old) × (new ≡ map (with_beat by now) old)
+unfolding turn
+beaten by now given old new is =
+    let sent = beat_rows by now given old new is in
+    let all = chained (has_due by now) (row_sent now) sent.0 old new (sent_once by now) sent.2 in
+    (sent.1 ∙ ap (filter_map (due_beat by now)) all.0 ∙ given_by_due by now old, all.1)
+
 pub ticked : (by : Beating) (now : ℕ) (lost : List ℕ) (given : List Beat) (old new : List PeerContact) → Tick by now old lost given new
     → (lost ≡ map row_peer (filter (has_lost by now) old)) × (given ≡ filter_map (due_beat by now) (map (without_lost by now) old))
     × (new ≡ map (with_beat by now) (map (without_lost by now) old))

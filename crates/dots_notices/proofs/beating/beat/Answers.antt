@@ -1,22 +1,16 @@
-use Rattle.std.proofs.Common.{◌∙◌}
 use Rattle.dots_host.proofs.RunLemmas.{added_weaker}
 use Rattle.dots_notices.proofs.Ticking.{all_sent}
 use Rattle.dots_notices.proofs.beating.beat.Goals as goal
 
 pub returns-clause-sent : goal.returns-clause-sent
 returns-clause-sent g c by agrees =
-    let lost = c.lose.ensures.lost in
     let given = c.send_beats.ensures.sent in
-    (all_sent by _ _ _ _ _ _ _ _ _ _ (lost.1 by agrees) (given.1 by agrees) given.2).0
+    (all_sent by _ _ _ _ _ _ _ _ (given.1 by agrees) given.2).0
 
 pub returns-clause-left : goal.returns-clause-left
 returns-clause-left g c by agrees =
-    let lost = c.lose.ensures.lost in
     let given = c.send_beats.ensures.sent in
-    (all_sent by _ _ _ _ _ _ _ _ _ _ (lost.1 by agrees) (given.1 by agrees) given.2).1
+    (all_sent by _ _ _ _ _ _ _ _ (given.1 by agrees) given.2).1
 
 pub returns-clause-adds : goal.returns-clause-adds
 returns-clause-adds g c = added_weaker _ _ _ _ c.send_beats.ensures.sent.2 (λ more sends. tt)
-
-pub returns-clause-peers : goal.returns-clause-peers
-returns-clause-peers g c = c.send_beats.ensures.peers ∙ c.lose.ensures.peers
