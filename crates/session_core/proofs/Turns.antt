@@ -8,7 +8,7 @@ use Rattle.session_core.specs.declared.contact.Contact.{Contact}
 use Rattle.session_core.specs.declared.contact.PeerContact.{PeerContact}
 use Rattle.session_core.specs.declared.contact.Beat.{Beat}
 use Rattle.session_core.specs.Contacts.{session_in, session_of, session_heard, row_heard, row_begun, contact_numbered, row_numbered}
-use Rattle.session_core.specs.Beating.{lost_in, has_session, contact_forgotten, row_forgotten, beat_before, has_waited, is_due, was_heard, beat_to, beat_in, session_sent, contact_sent, row_sent}
+use Rattle.session_core.specs.Beating.{lost_in, has_session, contact_forgotten, row_forgotten, row_watched, turn_loses, row_turned, beat_before, has_waited, is_due, was_heard, beat_to, beat_in, session_sent, contact_sent, row_sent}
 
 same_session : (x y : Session) → Some x ≡ Some y → x ≡ y
 same_session x y same = cc
@@ -161,3 +161,15 @@ begun_peer now row =
       | inl is ↦ ap (λ r. r.peer) (cond-true has row (row_heard now row) is)
       | inr out ↦ ap (λ r. r.peer) (cond-false has row (row_heard now row) out)
     ]
+
+-- a turn at a tick leaves the peer
+pub turned_peer : (watched : Bool) (by : ℕ × ℕ) (now : ℕ) (row : PeerContact) → (row_turned watched by now row).peer ≡ row.peer
+turned_peer watched by now row = by_loss (turn_loses watched by now row) ∙ by_watch watched
+  where
+    by_loss : (b : Bool) → (if b then row_forgotten (row_watched watched now row) else row_watched watched now row).peer ≡ (row_watched watched now row).peer
+    by_loss true = refl
+    by_loss false = refl
+
+    by_watch : (b : Bool) → (row_watched b now row).peer ≡ row.peer
+    by_watch true = begun_peer now row
+    by_watch false = refl

@@ -4,7 +4,7 @@ use Rattle.session_core.specs.declared.contact.Session.{Session}
 use Rattle.session_core.specs.declared.contact.Contact.{Contact}
 use Rattle.session_core.specs.declared.contact.PeerContact.{PeerContact}
 use Rattle.session_core.specs.declared.contact.Beat.{Beat}
-use Rattle.session_core.specs.Contacts.{session_of, next_id}
+use Rattle.session_core.specs.Contacts.{session_of, next_id, row_begun}
 use Rattle.session_core.specs.Firsts.{IsNowhere, IsFirst}
 
 -- the interval of each peer in seconds, and the number of heartbeats that may be missed
@@ -48,6 +48,20 @@ pub record IsNextLost (beats : Beating) (now : ℕ) (old new : List PeerContact)
 -- there is a session
 abbrev pub has_session : PeerContact → Bool
 has_session row = is_some (session_of row)
+
+-- ---- the turn of one peer at a tick
+
+-- a session begins where the peer is watched and has none
+abbrev pub row_watched : Bool → ℕ → PeerContact → PeerContact
+row_watched watched now row = if watched then row_begun now row else row
+
+-- and then its session is lost, by this interval and number of heartbeats that may be missed
+abbrev pub turn_loses : Bool → ℕ × ℕ → ℕ → PeerContact → Bool
+turn_loses watched by now row = lost_in by now (session_of (row_watched watched now row))
+
+-- one that is lost is forgotten
+abbrev pub row_turned : Bool → ℕ × ℕ → ℕ → PeerContact → PeerContact
+row_turned watched by now row = if turn_loses watched by now row then row_forgotten (row_watched watched now row) else row_watched watched now row
 
 -- ---- heartbeats
 

@@ -2,7 +2,7 @@
 
 ghost use Rattle.std.specs.Prelude.{◌≡◌, is_some, true, MatchOption, ⊤, option_and_then};
 ghost use Rattle.session_core.specs.Contacts.{is_of, session_of, number_heard, session_heard, row_heard, row_begun, next_id, number_in, row_numbered};
-ghost use Rattle.session_core.specs.Beating.{Beating, Agrees, is_lost, lost_in, has_lost, has_session, contact_forgotten, row_forgotten};
+ghost use Rattle.session_core.specs.Beating.{Beating, Agrees, is_lost, lost_in, has_lost, has_session, contact_forgotten, row_forgotten, turn_loses, row_turned};
 ghost use Rattle.session_core.specs.Beating.{beat_in, has_waited, is_due, was_heard, beat_to, due_beat, session_sent, contact_sent, row_sent};
 
 use crate::configs::Configs;
@@ -220,6 +220,23 @@ impl PeerContact {
         if let Some(contact) = self.contact {
             self.contact = Some(contact.forgotten());
         }
+    }
+
+    /// Its turn at a tick at the time `now`: a session begins where the peer is watched and has none; and the session is forgotten where it
+    /// is lost by this interval in seconds and number of heartbeats that may be missed, which is answered.
+    pub(crate) fn turn(&mut self, watched: bool, beat: (u64, u64), now: u64) -> bool
+        ensures lost { result ≡ turn_loses watched beat now self.old }
+        ensures after { self.new ≡ row_turned watched beat now self.old }
+    {
+        if watched {
+            self.begin(now);
+        }
+        let (interval, missing) = beat;
+        let lost = self.has_lost_by(interval, missing, now);
+        if lost {
+            self.forget();
+        }
+        lost
     }
 
     /// The heartbeat that the peer is to be sent at the time `now`, where one is due.

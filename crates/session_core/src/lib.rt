@@ -2,7 +2,8 @@
 //!
 //! - [`negotiate`] judges the values that a client asks for, and answers the configuration that they make.
 //! - [`Sessions`] keeps when each peer of the settings was heard and sent a heartbeat, and the Message IDs of the messages that begin
-//!   here. At a tick its caller asks [`Sessions::next_lost`] until None, and then [`Sessions::next_beat`] until None. Contracts see it
+//!   here. At a tick its caller asks [`Sessions::next_lost`] until None, or gives the peer at each place its turn by
+//!   [`Sessions::turn_at`], and then asks [`Sessions::next_beat`] until None. Contracts see it
 //!   as a list with one row for each peer, in the order of the settings. What a peer's interval is comes from a [`Configs`], a trait that
 //!   whoever keeps the configurations implements.
 //!

@@ -1,9 +1,9 @@
 //! The sessions with all peers.
 
-ghost use Rattle.std.specs.Prelude.{◌≡◌, ◌<◌, ◌+◌, ℕ, length, map, position, slice_get, option_and_then, count_by, is_some, true, Some, IfOk, MatchOption, ⊤};
+ghost use Rattle.std.specs.Prelude.{◌≡◌, ◌<◌, ◌+◌, ℕ, length, map, position, slice_get, option_and_then, option_map, count_by, is_some, true, Some, IfOk, MatchOption, ⊤};
 ghost use Rattle.std.specs.List.{list_any};
 ghost use Rattle.session_core.specs.Contacts.{is_of, unheard, row_heard, heard_from, row_begun, begun_with, number_in, number_of, row_numbered, numbered};
-ghost use Rattle.session_core.specs.Beating.{Beating, Agrees, has_session, NoneLost, IsNextLost, has_waited, NoneBeats, IsNextBeat};
+ghost use Rattle.session_core.specs.Beating.{Beating, Agrees, has_session, NoneLost, IsNextLost, has_waited, NoneBeats, IsNextBeat, turn_loses, row_turned};
 ghost use Rattle.session_core.specs.Places.{row_peer, AreFirsts, with_place};
 
 use crate::configs::Configs;
@@ -100,6 +100,27 @@ impl Sessions {
         }
     }
 
+    /// The peer at this place, in the order of the settings; None exactly where there is none.
+    pub fn peer_at(&self, place: usize) -> Option<u32>
+        ensures { result ≡ option_map row_peer (slice_get self.now place) }
+    {
+        match self.rows.as_slice().get(place) {
+            Some(row) => Some(row.peer),
+            None => None,
+        }
+    }
+
+    /// The turn of the peer at this place at a tick at the time `now`, in seconds. A session with it begins where it is watched and has none,
+    /// as if a message of it was heard. Then its session is forgotten where it is lost by this interval in seconds and number of heartbeats
+    /// that may be missed, and this is answered (RFC 9132, section 4.7). Takes no memory.
+    pub fn turn_at(&mut self, place: usize, watched: bool, beat: (u64, u64), now: u64) -> bool
+        requires { place < length self.old }
+        ensures lost { option_map (turn_loses watched beat now) (slice_get self.old place) ≡ Some result }
+        ensures after { self.new ≡ with_place place (row_turned watched beat now) self.old }
+    {
+        turn_at(&mut self.rows, place, watched, beat, now)
+    }
+
     /// The Message ID of the next message that begins here, to a peer with which a session has begun, be it forgotten or not. They rise
     /// by one in 16 bits, from the time at which the first session began.
     pub fn number(&mut self, peer: u32) -> u16
@@ -179,6 +200,21 @@ fn begin_at(rows: &mut Vec<PeerContact>, at: usize, now: u64)
     ensures { rows.new.items ≡ with_place at (row_begun now) rows.old.items }
 {
     rows[at].begin(now);
+}
+
+/// The turn at a tick of the peer at this place: whether its session was lost, which is forgotten then.
+fn turn_at(
+    rows: &mut Vec<PeerContact>,
+    at: usize,
+    watched: bool,
+    beat: (u64, u64),
+    now: u64,
+) -> bool
+    requires { at < length rows.old.items }
+    ensures lost { option_map (turn_loses watched beat now) (slice_get rows.old.items at) ≡ Some result }
+    ensures after { rows.new.items ≡ with_place at (row_turned watched beat now) rows.old.items }
+{
+    rows[at].turn(watched, beat, now)
 }
 
 /// The Message ID of the next message to the peer at this place; the one behind it is the next then.
