@@ -100,14 +100,19 @@ impl Sessions {
         }
     }
 
-    /// The peer at this place, in the order of the settings; None exactly where there is none.
-    pub fn peer_at(&self, place: usize) -> Option<u32>
-        ensures { result ≡ option_map row_peer (slice_get self.now place) }
+    /// How many peers there are.
+    pub fn len(&self) -> usize
+        ensures { result ≡ length self.now }
     {
-        match self.rows.as_slice().get(place) {
-            Some(row) => Some(row.peer),
-            None => None,
-        }
+        self.rows.len()
+    }
+
+    /// The peer at this place, in the order of the settings.
+    pub fn peer_at(&self, place: usize) -> u32
+        requires { place < length self.now }
+        ensures { option_map row_peer (slice_get self.now place) ≡ Some result }
+    {
+        self.rows[place].peer
     }
 
     /// The turn of the peer at this place at a tick at the time `now`, in seconds. A session with it begins where it is watched and has none,
