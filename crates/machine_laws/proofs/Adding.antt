@@ -1,5 +1,5 @@
 -- What a datagram adds carries what it asks.
-use Rattle.std.proofs.Common.{◌≡◌, inl, inr, ℕ, Bool, false, List, [], Some, Result, Ok, Err, refl, sym, ap, ◌∙◌, subst}
+use Rattle.std.proofs.Common.{◌≡◌, inl, inr, ℕ, Bool, false, List, [], Some, Result, Ok, Err, refl, sym, ap, ◌∙◌, subst, ◌⊎◌, ◌++◌, ◌∷◌}
 use Rattle.dots_host.specs.declared.event.Event.TheVariants as event
 use Rattle.dots_host.specs.declared.out.OwnedOut.{OwnedOut}
 use Rattle.coap_message.specs.declared.kind.Kind.{Kind}
@@ -26,7 +26,7 @@ use Rattle.coap_replies.specs.Replies.{rejection}
 use Rattle.dots_machine.specs.Facts.{Facts, AreFacts}
 use Rattle.dots_machine.specs.Deciding.{answer_to}
 use Rattle.dots_machine.specs.Machine.{State, later, option_verdict, reject_verdict, dismissal_verdict, rules_say, Decides, by_silence, by_rules, for_want_of_memory, after, Answers, Step}
-use Rattle.dots_machine.proofs.Hearing.{answer_history}
+use Rattle.dots_machine.proofs.Hearing.{answer_history, hears_adds, hears_time}
 use Rattle.machine_laws.specs.Adding.{CarriesRequest, AddsWhatIsAsked}
 use Rattle.machine_laws.proofs.Telling.{quiet, plain_message}
 use Rattle.machine_laws.proofs.Deciding.{IsExchange, Meets, meets_weaker, CarriesSome, answer_carries}
@@ -105,8 +105,9 @@ module _ (settings : SettingsValue) (state : State) (peer : ℕ) (datagram : Lis
   decided_right v (by_rules known got is rules) = subst IsRight (sym rules.2) (said_right known rules.0 rules.1 got is)
   decided_right v (for_want_of_memory known lacks) = subst IsRight (sym lacks.answer) (inl (quiet (plain_message 0xa0 (exchange_in lacks.message) []) refl))
 
+  -- it adds nothing, or what carries the request
   abbrev AddsAsked : List Entry → Type 0
-  AddsAsked new = AddsWhatIsAsked settings state.time peer datagram state.history new
+  AddsAsked new = (new ≡ state.history) ⊎ ((entry : Entry) × (new ≡ state.history ++ entry ∷ []) × CarriesRequest settings state.time peer datagram entry)
 
   right_adds : (v : Verdict) → IsRight v → AddsAsked (after v state).history
   right_adds verdict.Silent right = inl refl
@@ -115,8 +116,16 @@ module _ (settings : SettingsValue) (state : State) (peer : ℕ) (datagram : Lis
   right_adds (verdict.Retrieves x body) right = inl refl
   right_adds (verdict.Accept reply entry) right = inr (entry, refl, right.carries)
 
-  pub answers_add : (sends : List OwnedOut) (new : State) → Answers settings state peer datagram sends new → AddsAsked new.history
-  answers_add sends new a = subst AddsAsked (sym (answer_history settings state peer datagram sends new a)) (right_adds a.decided (decided_right a.decided a.decides))
+pub answers_add : (settings : SettingsValue) (state : State) (peer : ℕ) (datagram : List ℕ) (sends : List OwnedOut) (new : State) → Answers settings state peer datagram sends new
+    → AddsWhatIsAsked settings state.time peer datagram state.history new.history
+answers_add settings state peer datagram sends new a = (
+  a.met.history,
+  hears_adds settings peer datagram state a.met a.hears,
+  subst (λ t. (new.history ≡ a.met.history) ⊎ ((entry : Entry) × (new.history ≡ a.met.history ++ entry ∷ []) × CarriesRequest settings t peer datagram entry))
+      (hears_time settings peer datagram state a.met a.hears)
+      (subst (AddsAsked settings a.met peer datagram) (sym (answer_history settings state peer datagram sends new a))
+      (right_adds settings a.met peer datagram a.decided (decided_right settings a.met peer datagram a.decided a.decides))),
+)
 
 pub step_adds : (settings : SettingsValue) (old : State) (peer : ℕ) (datagram : List ℕ) (at : ℕ) (owed : List (State × OwnedOut)) (new : State)
     → Step settings old (event.Datagram peer datagram) at owed new → AddsWhatIsAsked settings (later old at).time peer datagram old.history new.history

@@ -4,7 +4,7 @@ use Rattle.std.specs.Int.{w32}
 use Rattle.std.specs.List.{list_all}
 use Rattle.std.specs.Char.{is_digit}
 use Rattle.std.specs.Str.Parse.{digits_value}
-use Rattle.std.proofs.Common.{◌≡◌, ℕ, ℤ, pos, negsuc, ◌<◌, ◌^◌, Bool, true, false, cond, List, length, Option, Some, None, Result, Ok, Err, refl, sym, ap, ◌∙◌, subst, arith}
+use Rattle.std.proofs.Common.{◌≡◌, ℕ, ℤ, pos, negsuc, ◌<◌, ◌^◌, Bool, true, false, cond, List, length, Option, Some, None, Result, Ok, Err, refl, sym, ap, ◌∙◌, subst, arith, is_some}
 use Rattle.std.proofs.lemmas.Bool.{and_parts, ltb-true}
 use Rattle.std.proofs.lemmas.Int.{ints, clamps}
 use Rattle.coap_message.specs.Message.{CoapMessage}
@@ -124,7 +124,7 @@ module _ (path : MitigationPath) (body : MitigationBody) where
   own_path : (operation : Operation) (content : Content) (observe : Observe) (payload : List ℕ) → Completes operation content observe payload answer → operation ≡ put_mitigation path
   own_path (put_mitigation own) content observe payload is =
       let tree = bound is.0 (put_mitigation_with own) (request.PutMitigation path body) (sym is.2) in
-      let scope = bound (mitigation_of tree.0) _ (request.PutMitigation path body) tree.2 in
+      let scope = bound (mitigation_of (is_some own.cdid) tree.0) _ (request.PutMitigation path body) tree.2 in
       let same : own ≡ path = cc scope.2 in
       ap put_mitigation same
   own_path (get_mitigation own) content observe payload is = absurd (cc is)

@@ -206,7 +206,7 @@ module _ (settings : SettingsValue) (t : ℕ) (history : List Entry) (facts : Fa
               mid = has ∙ sym (ap (λ (put : Put). Some put.mid) so.put_is);
               asked = ap (λ (put : Put). put.asked) so.put_is;
               lasts = ap (λ (put : Put). put.granted) so.put_is;
-              at_once = ap (λ (put : Put). put.trigger) so.put_is;
+              trigger = ap (λ (put : Put). put.trigger) so.put_is;
               refreshed = j.refreshed;
               reply = refl;
             };

@@ -93,7 +93,7 @@ module _ (next number mid : ℕ) (domain cuid : List ℕ) (named_domain : IsTrue
         let body : AnswersBody (canon (request_tree asked lifetime)) (put_mitigation_with path) (asked_in domain cuid mid asked lifetime) = (
           Ok (request_tree asked lifetime),
           canon_is (request_tree asked lifetime) valid,
-          sym (ap (λ r. r >>= λ body. Ok (request.PutMitigation path body)) (is_read asked lifetime can lasts) ∙ either (has_target asked) (record { asked = asked; lifetime = lifetime })),
+          sym (ap (λ r. r >>= λ body. Ok (request.PutMitigation path body)) (is_read true asked lifetime can lasts) ∙ either (has_target asked) (record { asked = asked; lifetime = lifetime; trigger = true })),
         ) in
         subst (λ head. ReadsAs head (canon (request_tree asked lifetime)) (asked_in domain cuid mid asked lifetime)) (sym asking_head) body
 

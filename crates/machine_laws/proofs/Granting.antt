@@ -84,10 +84,11 @@ module _ (settings : SettingsValue) (state : State) (peer : ℕ) (datagram : Lis
       let same = one_sent peer to reply bytes has in
       record { entry = entry; kept = Contains-push state.history entry; peer_is = right.carries.peer_is ∙ same.0; reply_is = right.reply_is ∙ same.1 }
 
+module _ (settings : SettingsValue) (state : State) (peer : ℕ) (datagram : List ℕ) (to : ℕ) (bytes : List ℕ) (says : Says bytes) where
   module _ (sends : List OwnedOut) (new : State) (a : Answers settings state peer datagram sends new) where
-    by_place : Contains a.replies (owned.To to bytes) ⊎ Contains a.notices (owned.To to bytes) → IsAnswered a.decided
+    by_place : Contains a.replies (owned.To to bytes) ⊎ Contains a.notices (owned.To to bytes) → IsAnswered settings a.met peer datagram to bytes says a.decided
     by_place (inl has) =
-        sent_answered (number_of settings a.asked a.met.observers) a.decided (decided_right settings state peer datagram a.decided a.decides)
+        sent_answered settings a.met peer datagram to bytes says (number_of settings a.asked a.met.observers) a.decided (decided_right settings a.met peer datagram a.decided a.decides)
         (subst (λ outs. Contains outs (owned.To to bytes)) a.replies_are has)
     by_place (inr has) =
         let told : State = watched settings peer a.asked a.decided a.replies (after a.decided a.met) in

@@ -21,7 +21,7 @@ use Rattle.rest_answers.specs.Turns.{RestFront, closing, reply_in, sends_of}
 use Rattle.rest_answers.specs.Replies.{refusal}
 use Rattle.dots_settings.specs.Settings.{SettingsValue}
 use Rattle.dots_machine.specs.Observing.{bodies_at}
-use Rattle.dots_machine.specs.Machine.{State, later, seen_in, Notified, Ticks, turned_away, AnswersFront, receiving, Takes, Step}
+use Rattle.dots_machine.specs.Machine.{State, later, seen_in, Notified, Ticks, turned_away, AnswersFront, receiving, Takes, Step, lapsed}
 use Rattle.dots_machine.proofs.Fronts.{outs_in, outs_first, takes_outs}
 use Rattle.stream_table.specs.Lines.{opening}
 use Rattle.machine_laws.specs.Granting.{IsGrant, IsNoDatagram}
@@ -65,7 +65,7 @@ beats_told (beat ∷ beats) =
 tick_told : (settings : SettingsValue) (state : State) (sends : List OwnedOut) (new : State) → Ticks settings state sends new → TellNone sends
 tick_told settings state sends new t =
     subst TellNone (sym t.sends_are)
-    (both_told t.notices t.heartbeats (notices_told settings state t.told t.notices t.notified) (subst TellNone (sym t.beaten.0) (beats_told _)))
+    (both_told t.notices t.heartbeats (notices_told settings (lapsed settings state) t.told t.notices t.notified) (subst TellNone (sym t.beaten.0) (beats_told _)))
 
 -- ---- connections
 closing_told : (conn : ℕ) (close : Bool) → TellNone (closing conn close)

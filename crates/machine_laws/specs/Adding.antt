@@ -20,6 +20,7 @@ use Rattle.dots_machine.specs.Requests.{IsReceived}
 use Rattle.dots_machine.specs.Replies.{granting, deleted, configuring}
 use Rattle.dots_machine.specs.Mitigations.{key_of}
 use Rattle.dots_machine.specs.Apart.{domain_of}
+use Rattle.dots_machine.specs.Signals.{back_of}
 
 -- A mitigation that is asked for (RFC 9132, section 4.4.1): for the client of the path, with its mid and the lists of the body, and for what the
 -- settings grant of the lifetime. It filters at once. The reply tells the mid and the granted lifetime.
@@ -30,7 +31,7 @@ pub record CarriesPut (settings : SettingsValue) (exchange : Exchange) (path : M
   pub mid : path.mid ≡ Some put.mid
   pub asked : put.asked ≡ body.asked
   pub lasts : put.granted ≡ granted body.lifetime (pos settings.ceiling) settings.indefinite
-  pub at_once : put.trigger ≡ true
+  pub trigger : put.trigger ≡ body.trigger
   pub refreshed : Bool
   pub reply : entry.reply ≡ granting exchange (record { put = put; refreshed = refreshed })
 
@@ -79,7 +80,12 @@ pub record CarriesRequest (settings : SettingsValue) (time peer : ℕ) (datagram
   pub key_is : entry.key ≡ key_of exchange.kind exchange.id
   pub carries : Carries settings exchange asked entry
 
--- a datagram at this time adds no entry, or exactly one, which carries what it asks
+-- what a datagram adds before it is decided on: nothing, or that the signal of its client is back, where that was lost
+abbrev pub AddsBack : SettingsValue → ℕ → ℕ → List Entry → List Entry → Type 0
+AddsBack settings time peer old met = (met ≡ old) ⊎ (met ≡ old ++ back_of settings time old peer)
+
+-- behind that a datagram at this time adds no entry, or exactly one, which carries what it asks
 abbrev pub AddsWhatIsAsked : SettingsValue → ℕ → ℕ → List ℕ → List Entry → List Entry → Type 0
 AddsWhatIsAsked settings time peer datagram old new =
-    (new ≡ old) ⊎ ((entry : Entry) × (new ≡ old ++ entry ∷ []) × CarriesRequest settings time peer datagram entry)
+    (met : List Entry) × AddsBack settings time peer old met
+    × ((new ≡ met) ⊎ ((entry : Entry) × (new ≡ met ++ entry ∷ []) × CarriesRequest settings time peer datagram entry))

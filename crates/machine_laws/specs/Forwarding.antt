@@ -1,5 +1,5 @@
 -- What the server reads of a client's request that a gateway passes on.
-use Rattle.std.specs.Prelude.{ℕ, ℤ, List, decimal, Some, Result, Ok, Err, if◌then◌else◌}
+use Rattle.std.specs.Prelude.{ℕ, ℤ, List, decimal, Some, Result, Ok, Err, if◌then◌else◌, true}
 use Rattle.acl_lists.specs.declared.asked.Asked.{Asked}
 use Rattle.dots_heads.specs.declared.reject.Reject.{Reject}
 use Rattle.dots_heads.specs.Results.{missing}
@@ -16,7 +16,7 @@ passage_for cuid mid = record { hop = 16; cuid = Some cuid; mid = Some (decimal 
 abbrev pub asked_in : List ℕ → List ℕ → ℕ → Asked → ℤ → Result Request Reject
 asked_in domain cuid mid asked lifetime =
     if has_target asked
-    then Ok (request.PutMitigation (record { cdid = Some domain; cuid = cuid; mid = Some mid }) (record { asked = asked; lifetime = lifetime }))
+    then Ok (request.PutMitigation (record { cdid = Some domain; cuid = cuid; mid = Some mid }) (record { asked = asked; lifetime = lifetime; trigger = true }))
     else Err (missing 6)
 
 -- and of a withdrawal

@@ -33,7 +33,8 @@ ghost use Rattle.machine_laws.specs.Granting.{IsGrant, WasAnswered, IsNoDatagram
 ghost use Rattle.machine_laws.specs.Reading.{IsReadAs};
 ghost use Rattle.machine_laws.specs.Forwarding.{passage_for, asked_in, withdrawn_in};
 
-/// A datagram adds no entry to the history, or exactly one, which carries what the datagram asks: at its time, from its sender, for the domain
+/// A datagram adds to the history that the signal of its client is back, where that was lost and the datagram can be read. Behind that it adds no
+/// entry, or exactly one, which carries what the datagram asks: at its time, from its sender, for the domain
 /// that this acts for, under the datagram's type and Message ID. What is granted has the mid, the lists and, by the settings, the lifetime
 /// that were asked for.
 pub fn adds()
