@@ -41,9 +41,9 @@ use Rattle.coap_replies.specs.Exchanges.{exchange_in, dismissed}
 use Rattle.dots_machine.specs.Observing.{bodies_at, asked_in, in_known, asked_of, asked_by, unless_dismissed, watching_in, Watches, by_message, unreadable, by_stranger, is_unavailable, observing}
 use Rattle.dots_machine.specs.Answering.{IsHandedIn}
 use Rattle.dots_machine.specs.Replies.{unavailable as refused}
-use Rattle.dots_machine.specs.Machine.{State, later, restarted, LacksMemory, after, seen_in, Notified, Answers, Ticks, beating, disconnected, Step}
+use Rattle.dots_machine.specs.Machine.{State, later, restarted, LacksMemory, after, seen_in, Notified, Answers, Ticks, beating, disconnected, Step, Decides, lapsed}
 use Rattle.dots_machine.proofs.Connections.{opens_observers, opens_once}
-use Rattle.dots_machine.proofs.Hearing.{left, hears_observers, after_observers}
+use Rattle.dots_machine.proofs.Hearing.{left, hears_observers, after_observers, hears_once}
 use Rattle.dots_machine.proofs.OneAnswer.{one_verdict, says, same_replies, same_left}
 use Rattle.session_core.specs.declared.contact.PeerContact.{PeerContact}
 use Rattle.dots_notices.specs.Beats.{beats, after_beats}
@@ -218,7 +218,9 @@ module _ (settings : SettingsValue) (state : State) (peer : ℕ) (bytes : List �
 
   answered_one : (sends others : List OwnedOut) (new last : State) → Answers settings state peer bytes sends new → Answers settings state peer bytes others last
       → count_by unavailable sends ≡ 0 → count_by unavailable others ≡ 0 → (sends ≡ others) × (new ≡ last)
-  answered_one sends others new last a b nought nil = by_verdicts (one_verdict settings state peer bytes are a.decided b.decided a.decides b.decides)
+  answered_one sends others new last a b nought nil =
+      by_verdicts (one_verdict settings b.met peer bytes are a.decided b.decided
+      (subst (λ met. Decides settings met peer bytes a.decided) (hears_once settings peer bytes state a.met b.met a.hears b.hears) a.decides) b.decides)
     where
       by_verdicts : (a.decided ≡ b.decided) ⊎ (LacksMemory bytes (is_gateway (role_of settings peer)) a.decided ⊎ LacksMemory bytes (is_gateway (role_of settings peer)) b.decided)
           → (sends ≡ others) × (new ≡ last)
@@ -235,10 +237,10 @@ module _ (settings : SettingsValue) (state : State) (peer : ℕ) (bytes : List �
           let s = says settings state peer bytes are others last b lacks in absurd (counted s.message peer others s.notices s.sent nil)
 
 ticked_none : (settings : SettingsValue) (state new : State) (sends : List OwnedOut) → state.observers ≡ [] → Ticks settings state sends new
-    → (sends ≡ beats (beating settings state) state.time state.contacts)
-    × (new ≡ record state { contacts = after_beats (beating settings state) state.time state.contacts }) × (new.observers ≡ [])
+    → (sends ≡ beats (beating settings (lapsed settings state)) state.time (lapsed settings state).contacts)
+    × (new ≡ record (lapsed settings state) { contacts = after_beats (beating settings (lapsed settings state)) state.time (lapsed settings state).contacts }) × (new.observers ≡ [])
 ticked_none settings state new sends none t =
-    let told = tells_none settings state t.told t.notices none t.notified in (
+    let told = tells_none settings (lapsed settings state) t.told t.notices none t.notified in (
       t.sends_are ∙ ap (λ notices. notices ++ t.heartbeats) told.0 ∙ t.beaten.0 ∙ ap (λ (s : State). beats (beating settings s) s.time s.contacts) told.1,
       t.beaten.1 ∙ ap beaten told.1,
       ap (λ (s : State). s.observers) t.beaten.1 ∙ told.2,

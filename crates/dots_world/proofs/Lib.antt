@@ -1,4 +1,5 @@
 pub mod Lists
+pub mod AtOnce
 pub mod Clients
 pub mod Messages
 pub mod Slashes

@@ -1,7 +1,7 @@
 -- The machine is such a server.
 use Rattle.std.specs.Prelude.{IsTrue, if◌then◌else◌}
 use Rattle.std.specs.Int.{w64, to_be_bytes}
-use Rattle.std.proofs.Common.{◌≡◌, inl, inr, ℕ, ℤ, ◌<◌, ◌≤◌, ◌^◌, ◌/◌, ◌==◌, ◌&&◌, not, Bool, true, false, List, [], length, Contains, Some, None, Ok, Err, refl, sym, ap, ◌∙◌, subst, arith}
+use Rattle.std.proofs.Common.{◌≡◌, inl, inr, ℕ, ℤ, ◌<◌, ◌≤◌, ◌^◌, ◌/◌, ◌==◌, ◌&&◌, not, Bool, true, false, List, [], length, Contains, Some, None, Ok, Err, refl, sym, ap, ◌∙◌, subst, arith, ◌++◌, ◌∷◌, map}
 use Rattle.std.proofs.lemmas.Option.{same_Some}
 use Rattle.cbor_profile.specs.Canon.{canon}
 use Rattle.coap_message.specs.declared.codes.TheConstants.{DELETED}
@@ -62,6 +62,8 @@ use Rattle.dots_heads.specs.declared.reject.Reject.TheVariants as reject
 use Rattle.dots_world.proofs.Messages.{written}
 use Rattle.dots_world.proofs.Slashes.{slash_head, head_refused}
 use Rattle.dots_world.proofs.Serving.{AddsOne, IsEntryOf, IsServing}
+use Rattle.dots_world.proofs.AtOnce.{AtOnce, nothing_lapses, nothing_back}
+use Rattle.dots_machine.specs.Signals.{last_heard}
 
 abbrev pub history_of : State → List Entry
 history_of s = s.history
@@ -108,16 +110,16 @@ module _ (plan : Plan) (is_plan : IsPlan plan) (time peer : ℕ) (datagram : Lis
   short : length m.token ≤ 8
   short = subst (λ (t : List ℕ). length t ≤ 8) (sym token) (omega arith)
 
-  of_put : (path : MitigationPath) (body : MitigationBody) → path.cuid ≡ cuid → path.mid ≡ Some mid → c.asked ≡ request.PutMitigation path body
+  of_put : (path : MitigationPath) (body : MitigationBody) → path.cuid ≡ cuid → path.mid ≡ Some mid → body.trigger ≡ true → c.asked ≡ request.PutMitigation path body
       → IsEntryOf plan peer number cuid mid (mitigates body.asked body.lifetime) e
-  of_put path body named mid_is asked =
+  of_put path body named mid_is at_once asked =
       let p : CarriesPut plan.settings (exchange_in m) path body e =
       subst (λ x. CarriesPut plan.settings x path body e) same (subst (λ r. adding.Carries plan.settings c.exchange r e) asked c.carries) in
       let mids : p.put.mid ≡ mid = same_Some p.put.mid mid (sym p.mid ∙ mid_is) in
       record {
         of_peer = c.peer_is;
         of_cuid = p.cuid ∙ named;
-        carries = (p.put, p.changes, mids, p.asked, p.lasts);
+        carries = (p.put, p.changes, mids, p.asked, p.lasts, p.trigger ∙ at_once);
         numbered = record {
           message = body_message (grant_code p.refreshed) (exchange_in m) (canon (granted_tree p.put.mid p.put.granted));
           is_message = body_fits p.refreshed (exchange_in m) (canon (granted_tree p.put.mid p.put.granted)) id short;
@@ -155,25 +157,26 @@ module _ (plan : Plan) (is_plan : IsPlan plan) where
   settings : SettingsValue
   settings = plan.settings
 
-  adds_by : (old new : List Entry) (time peer : ℕ) (datagram : List ℕ) (P : Entry → Type 0) → AddsWhatIsAsked plan.settings time peer datagram old new
+  adds_by : (old new : List Entry) (time peer : ℕ) (datagram : List ℕ) (P : Entry → Type 0) → AtOnce old → AddsWhatIsAsked plan.settings time peer datagram old new
       → ((e : Entry) → CarriesRequest plan.settings time peer datagram e → P e) → AddsOne old new P
-  adds_by old new time peer datagram P (inl is) each = inl is
-  adds_by old new time peer datagram P (inr (e, is, c)) each = inr (e, is, each e c)
+  adds_by old new time peer datagram P now (met, back, inl is) each = inl (is ∙ nothing_back plan.settings time peer old met now back)
+  adds_by old new time peer datagram P now (met, back, inr (e, is, c)) each =
+      inr (e, is ∙ ap (λ es. es ++ e ∷ []) (nothing_back plan.settings time peer old met now back), each e c)
 
-  answers : (old : State) (peer : ℕ) (m : CoapMessage) (at : ℕ) (owed : List (State × OwnedOut)) (new : State) → IsMessage m → is_request m ≡ false
+  answers : (old : State) (peer : ℕ) (m : CoapMessage) (at : ℕ) (owed : List (State × OwnedOut)) (new : State) → AtOnce old.history → IsMessage m → is_request m ≡ false
       → Step plan.settings old (event.Datagram peer (spelling m)) at owed new → new.history ≡ old.history
-  answers old peer m at owed new is none st = by (step_adds plan.settings old peer (spelling m) at owed new st)
+  answers old peer m at owed new now is none st = by (step_adds plan.settings old peer (spelling m) at owed new st)
     where
       by : AddsWhatIsAsked plan.settings (later old at).time peer (spelling m) old.history new.history → new.history ≡ old.history
-      by (inl same) = same
-      by (inr (e, added, c)) = absurd (none_asked m (is_gateway (role_of plan.settings peer)) c.exchange c.asked is none c.received)
+      by (met, back, inl same) = same ∙ nothing_back plan.settings (later old at).time peer old.history met now back
+      by (met, back, inr (e, added, c)) = absurd (none_asked m (is_gateway (role_of plan.settings peer)) c.exchange c.asked is none c.received)
 
   -- for the domain of the peer
   domain_is : (who : Role) (peer : ℕ) (asked made : Request) (domain found : ℕ) → role_of plan.settings peer ≡ who → asked ≡ made → domain_of plan.settings (role_of plan.settings peer) asked ≡ Some found
       → domain_of plan.settings who made ≡ Some found
   domain_is who peer asked made domain found whose same is = ap (λ r. domain_of plan.settings who r) (sym same) ∙ ap (λ r. domain_of plan.settings r asked) (sym whose) ∙ is
 
-  module _ (old : State) (peer number mid : ℕ) (cuid : List ℕ) (domain at : ℕ) (owed : List (State × OwnedOut)) (new : State) (whose : role_of plan.settings peer ≡ role.Client domain)
+  module _ (old : State) (peer number mid : ℕ) (cuid : List ℕ) (domain at : ℕ) (owed : List (State × OwnedOut)) (new : State) (now : AtOnce old.history) (whose : role_of plan.settings peer ≡ role.Client domain)
       (named : IsTrue (is_client_name cuid)) (small : mid < 2 ^ 32) where
     abbrev Wanted : Aim → Entry → Type 0
     Wanted aim e = (e.domain ≡ domain) × IsEntryOf plan peer number cuid mid aim e
@@ -184,16 +187,16 @@ module _ (plan : Plan) (is_plan : IsPlan plan) where
     asked_adds : (aim : Aim) → CanSay aim → AreBytes (spelling (message_with number cuid mid aim)) → Step plan.settings old (event.Datagram peer (spelling (message_with number cuid mid aim))) at owed new
         → AddsOne old.history new.history (Wanted aim)
     asked_adds (mitigates asked lifetime) can are st =
-        adds_by old.history new.history (later old at).time peer _ (Wanted (mitigates asked lifetime)) (step_adds plan.settings old peer _ at owed new st)
+        adds_by old.history new.history (later old at).time peer _ (Wanted (mitigates asked lifetime)) now (step_adds plan.settings old peer _ at owed new st)
         (λ e c.
         let m = message_with number cuid mid (mitigates asked lifetime) in
         let got = received_so m e c _ (asking_read number mid cuid asked lifetime named small can.0 can.1 can.2 are) in
-        let is = request_is c.exchange c.asked m (has_target asked) (request.PutMitigation (record { cdid = None; cuid = cuid; mid = Some mid }) (record { asked = asked; lifetime = lifetime })) (missing 6) got in (
+        let is = request_is c.exchange c.asked m (has_target asked) (request.PutMitigation (record { cdid = None; cuid = cuid; mid = Some mid }) (record { asked = asked; lifetime = lifetime; trigger = true })) (missing 6) got in (
           same_Some e.domain domain (sym (domain_is (role.Client domain) peer c.asked _ domain e.domain whose is.1 c.domain_is)),
-          of_put plan is_plan (later old at).time peer _ e c m number mid cuid (omega arith) refl is.0 (record { cdid = None; cuid = cuid; mid = Some mid }) (record { asked = asked; lifetime = lifetime }) refl refl is.1,
+          of_put plan is_plan (later old at).time peer _ e c m number mid cuid (omega arith) refl is.0 (record { cdid = None; cuid = cuid; mid = Some mid }) (record { asked = asked; lifetime = lifetime; trigger = true }) refl refl refl is.1,
         ))
     asked_adds withdraws can are st =
-        adds_by old.history new.history (later old at).time peer _ (Wanted withdraws) (step_adds plan.settings old peer _ at owed new st)
+        adds_by old.history new.history (later old at).time peer _ (Wanted withdraws) now (step_adds plan.settings old peer _ at owed new st)
         (λ e c.
         let m = message_with number cuid mid withdraws in
         let got = received_so m e c _ (withdrawing_read number mid cuid named small are) in
@@ -202,7 +205,7 @@ module _ (plan : Plan) (is_plan : IsPlan plan) where
           of_withdrawal plan is_plan (later old at).time peer _ e c m number mid cuid (omega arith) refl is.0 (record { cdid = None; cuid = cuid; mid = Some mid }) refl refl is.1,
         ))
 
-  module _ (old : State) (peer next number mid : ℕ) (domain cuid : List ℕ) (at : ℕ) (owed : List (State × OwnedOut)) (new : State) (whose : role_of plan.settings peer ≡ role.Gateway)
+  module _ (old : State) (peer next number mid : ℕ) (domain cuid : List ℕ) (at : ℕ) (owed : List (State × OwnedOut)) (new : State) (now : AtOnce old.history) (whose : role_of plan.settings peer ≡ role.Gateway)
       (named_domain_is : IsTrue (is_client_name domain)) (named : IsTrue (is_client_name cuid)) (small : mid < 2 ^ 32) where
     abbrev Passed : Aim → Entry → Type 0
     Passed aim e = (named_domain plan.settings domain ≡ Some e.domain) × IsEntryOf plan peer next cuid mid aim e
@@ -213,16 +216,16 @@ module _ (plan : Plan) (is_plan : IsPlan plan) where
     passed_adds : (aim : Aim) → CanSay aim → AreBytes (spelling (forwarded next domain (passage_for cuid mid) (message_with number cuid mid aim)))
         → Step plan.settings old (event.Datagram peer (spelling (forwarded next domain (passage_for cuid mid) (message_with number cuid mid aim)))) at owed new → AddsOne old.history new.history (Passed aim)
     passed_adds (mitigates asked lifetime) can are st =
-        adds_by old.history new.history (later old at).time peer _ (Passed (mitigates asked lifetime)) (step_adds plan.settings old peer _ at owed new st)
+        adds_by old.history new.history (later old at).time peer _ (Passed (mitigates asked lifetime)) now (step_adds plan.settings old peer _ at owed new st)
         (λ e c.
         let m = forwarded next domain (passage_for cuid mid) (message_with number cuid mid (mitigates asked lifetime)) in
         let got = passed_so m e c _ (asking_forwarded next number mid domain cuid asked lifetime named_domain_is named small can.0 can.1 can.2 are) in
-        let is = request_is c.exchange c.asked m (has_target asked) (request.PutMitigation (record { cdid = Some domain; cuid = cuid; mid = Some mid }) (record { asked = asked; lifetime = lifetime })) (missing 6) got in (
+        let is = request_is c.exchange c.asked m (has_target asked) (request.PutMitigation (record { cdid = Some domain; cuid = cuid; mid = Some mid }) (record { asked = asked; lifetime = lifetime; trigger = true })) (missing 6) got in (
           domain_is role.Gateway peer c.asked _ 0 e.domain whose is.1 c.domain_is,
-          of_put plan is_plan (later old at).time peer _ e c m next mid cuid (omega arith) refl is.0 (record { cdid = Some domain; cuid = cuid; mid = Some mid }) (record { asked = asked; lifetime = lifetime }) refl refl is.1,
+          of_put plan is_plan (later old at).time peer _ e c m next mid cuid (omega arith) refl is.0 (record { cdid = Some domain; cuid = cuid; mid = Some mid }) (record { asked = asked; lifetime = lifetime; trigger = true }) refl refl refl is.1,
         ))
     passed_adds withdraws can are st =
-        adds_by old.history new.history (later old at).time peer _ (Passed withdraws) (step_adds plan.settings old peer _ at owed new st)
+        adds_by old.history new.history (later old at).time peer _ (Passed withdraws) now (step_adds plan.settings old peer _ at owed new st)
         (λ e c.
         let m = forwarded next domain (passage_for cuid mid) (message_with number cuid mid withdraws) in
         let got = passed_so m e c _ (withdrawing_forwarded next number mid domain cuid named_domain_is named small are) in
@@ -232,15 +235,15 @@ module _ (plan : Plan) (is_plan : IsPlan plan) where
         ))
 
   -- a client whose name has a slash adds nothing
-  asked_law : (old : State) (peer number mid : ℕ) (cuid : List ℕ) (domain at : ℕ) (owed : List (State × OwnedOut)) (new : State) → role_of plan.settings peer ≡ role.Client domain → IsTrue (is_name cuid) → mid < 2 ^ 32
+  asked_law : (old : State) (peer number mid : ℕ) (cuid : List ℕ) (domain at : ℕ) (owed : List (State × OwnedOut)) (new : State) → AtOnce old.history → role_of plan.settings peer ≡ role.Client domain → IsTrue (is_name cuid) → mid < 2 ^ 32
       → (aim : Aim) → CanSay aim → AreBytes (spelling (message_with number cuid mid aim)) → Step plan.settings old (event.Datagram peer (spelling (message_with number cuid mid aim))) at owed new
       → (b : Bool) → is_client_name cuid ≡ b → AddsOne old.history new.history (λ e. (e.domain ≡ domain) × IsEntryOf plan peer number cuid mid aim e)
-  asked_law old peer number mid cuid domain at owed new whose named small aim can are st true e = asked_adds old peer number mid cuid domain at owed new whose e small aim can are st
-  asked_law old peer number mid cuid domain at owed new whose named small aim can are st false e = inl (by (step_adds plan.settings old peer _ at owed new st))
+  asked_law old peer number mid cuid domain at owed new now whose named small aim can are st true e = asked_adds old peer number mid cuid domain at owed new now whose e small aim can are st
+  asked_law old peer number mid cuid domain at owed new now whose named small aim can are st false e = inl (by (step_adds plan.settings old peer _ at owed new st))
     where
       by : AddsWhatIsAsked plan.settings (later old at).time peer (spelling (message_with number cuid mid aim)) old.history new.history → new.history ≡ old.history
-      by (inl same) = same
-      by (inr (x, is, c)) =
+      by (met, back, inl same) = same ∙ nothing_back plan.settings (later old at).time peer old.history met now back
+      by (met, back, inr (x, is, c)) =
           absurd (head_refused (message_with number cuid mid aim) false reject.Parameter c.exchange c.asked (written number mid cuid named small aim) (slash_head number mid cuid named e small aim)
           (subst (λ g. IsReceived (spelling (message_with number cuid mid aim)) g (received.Asked c.exchange c.asked)) (ap is_gateway whose) c.received))
 
@@ -258,11 +261,11 @@ module _ (plan : Plan) (is_plan : IsPlan plan) where
 
   pub machine_serves : IsServing plan history_of (Step plan.settings)
   machine_serves = record {
-    ticks = λ old at owed new st. tick_history plan.settings (later old at) st.0 new st.2;
+    ticks = λ old at owed new now st. tick_history plan.settings (later old at) st.0 new st.2 ∙ nothing_lapses plan.settings (later old at).time old.history (map last_heard old.contacts) now;
     restarts = λ old at owed new st. ap (λ (s : State). s.history) st.1;
     answers = answers;
-    asked = λ old peer number mid cuid aim domain at owed new whose named small can are st. asked_law old peer number mid cuid domain at owed new whose named small aim can are st (is_client_name cuid) refl;
-    forwards = λ old peer next number mid domain cuid aim at owed new whose named_domain_is named small can are st.
-        passed_adds old peer next number mid domain cuid at owed new whose named_domain_is named small aim can are st;
+    asked = λ old peer number mid cuid aim domain at owed new now whose named small can are st. asked_law old peer number mid cuid domain at owed new now whose named small aim can are st (is_client_name cuid) refl;
+    forwards = λ old peer next number mid domain cuid aim at owed new now whose named_domain_is named small can are st.
+        passed_adds old peer next number mid domain cuid at owed new now whose named_domain_is named small aim can are st;
     grants = grants_kept;
   }

@@ -22,8 +22,9 @@ use Rattle.dots_world.specs.Once.{CarriesAsk, FindsAt, RunsFinding}
 use Rattle.dots_world.proofs.Lists.{not_in_none, got_in, one_number}
 use Rattle.dots_world.proofs.Kept.{Within, AsksInv, under_more}
 use Rattle.dots_world.proofs.Received.{no_direct_gateway}
-use Rattle.dots_world.proofs.Serving.{AddsOne, IsServing, Inv, IsFromBy, from_source}
+use Rattle.dots_world.proofs.Serving.{AddsOne, IsServing, Inv, IsFromBy, from_source, asked_at_once}
 use Rattle.dots_world.proofs.Over.{made_small, all_hand, begins_keep, at_first}
+use Rattle.dots_world.proofs.AtOnce.{AtOnce}
 
 -- ---- one ask of an entry
 
@@ -65,7 +66,7 @@ longer xs x is = let sum = length-append xs (x ∷ []) in let same = ap length i
 
 module _ {S : Type 0} (plan : Plan) (is_plan : IsPlan plan) (history : S → List Entry) (step : S → Event → ℕ → List (S × OwnedOut) → S → Type 0) (laws : IsServing plan history step)
     (finds : S → ℕ → ℕ → List ℕ → Entry → Type 0)
-    (repeats : (old : S) (at peer : ℕ) (bytes : List ℕ) (e : Entry) (owed : List (S × OwnedOut)) (new : S) → AreBytes bytes → finds old at peer bytes e → step old (event.Datagram peer bytes) at owed new → history new ≡ history old)
+    (repeats : (old : S) (at peer : ℕ) (bytes : List ℕ) (e : Entry) (owed : List (S × OwnedOut)) (new : S) → AtOnce (history old) → AreBytes bytes → finds old at peer bytes e → step old (event.Datagram peer bytes) at owed new → history new ≡ history old)
     (a : MadeAsk) where
   abbrev One : World S → Type 0
   One w = Contains w.asks a → HasOneEntry plan w.gateway.kept (history w.server) a
@@ -139,6 +140,9 @@ module _ {S : Type 0} (plan : Plan) (is_plan : IsPlan plan) (history : S → Lis
   more_kept old (event.Piece conn piece) outs next p = λ x there. subst (λ (g : GatewayState). Contains g.kept x) (sym p.1) there
 
   module _ (n : ℕ) (few : n < 2 ^ 61) (old new : World S) (inv : Inv plan history n old) (new_inv : Inv plan history (suc n) new) (one : One old) where
+    at_once : AtOnce (history old.server)
+    at_once = asked_at_once plan old.asks old.gateway.kept (history old.server) inv.entries
+
     staying : Stays old new → One new
     staying s = stays n (omega (arith, few)) old new inv (suc n) (omega (arith, few)) new_inv s one
 
@@ -150,8 +154,8 @@ module _ {S : Type 0} (plan : Plan) (is_plan : IsPlan plan) (history : S → Lis
     comes_once p (Some the_server) there is are found (peer, peer_is, (owed, server, st, leaves)) =
         subst One (sym leaves)
         (λ a_there. added n (omega (arith, few)) old inv p.source p.bytes server
-        (from_source plan is_plan history step laws n old.asks old.gateway.kept inv.asks old.server old.time owed server peer p.source p.target p.bytes is peer_is (inv.packets p there) are st)
-        (λ e carries e_there under. repeats old.server old.time peer p.bytes e owed server are (found peer e is peer_is carries e_there under) st) one a_there)
+        (from_source plan is_plan history step laws n old.asks old.gateway.kept inv.asks old.server at_once old.time owed server peer p.source p.target p.bytes is peer_is (inv.packets p there) are st)
+        (λ e carries e_there under. repeats old.server old.time peer p.bytes e owed server at_once are (found peer e is peer_is carries e_there under) st) one a_there)
     comes_once p (Some the_gateway) there is are found (peer, peer_is, (outs, next, passes, leaves)) =
         staying (subst (Stays old) (sym leaves) (record { asked = λ b b_there. b_there; kept = more_kept old (event.Datagram peer p.bytes) outs next passes; same = refl }))
     comes_once p (Some (a_client i)) there is are found c = staying (subst (Stays old) (sym c.leaves) (nothing_of c.c i c.after _))
@@ -168,7 +172,7 @@ module _ {S : Type 0} (plan : Plan) (is_plan : IsPlan plan) (history : S → Lis
         staying (subst (Stays old) (sym leaves) (record { asked = λ b there. Contains-append_left old.asks _ b there; kept = λ x there. there; same = refl }))
     begins_once (asks i what) found (unmade none leaves) = staying (subst (Stays old) (sym leaves) (nothing old))
     begins_once (ticks at) found (owed, server, st, leaves) =
-        staying (subst (Stays old) (sym leaves) (record { asked = λ b there. there; kept = λ x there. there; same = laws.ticks old.server (max old.time at) owed server st }))
+        staying (subst (Stays old) (sym leaves) (record { asked = λ b there. there; kept = λ x there. there; same = laws.ticks old.server (max old.time at) owed server at_once st }))
     begins_once restarts found (owed, server, st, leaves) =
         staying (subst (Stays old) (sym leaves) (record { asked = λ b there. there; kept = λ x there. there; same = laws.restarts old.server old.time owed server st }))
     begins_once gateway_restarts found (outs, next, passes, leaves) =

@@ -27,7 +27,7 @@ use Rattle.dots_world.proofs.Clients.{drained, receives}
 use Rattle.dots_world.proofs.Messages.{IsAnswer, answers_nothing}
 use Rattle.dots_world.proofs.Kept.{Within, scope_of, IsGood, AsksInv, IsWaiting, ClientInv, IsClientRequest, Answered, GrantsBy, Says, SaysOf, waiting_more, row_more, made_more, packets_more, entries_more, raised_asks, raised_clients, raised_gateway, client_set, less_client}
 use Rattle.dots_world.proofs.Received.{asked_of_gateway, gateway_at, row_granted}
-use Rattle.dots_world.proofs.Serving.{IsServing, Inv, delivered_keeps, quiet_keeps}
+use Rattle.dots_world.proofs.Serving.{IsServing, Inv, delivered_keeps, quiet_keeps, asked_at_once}
 use Rattle.dots_world.proofs.Passing.{Left, aged, begun_anew, up_left, down_says, not_upstream, all_none}
 
 -- ---- the mid of an ask
@@ -312,7 +312,8 @@ module _ {S : Type 0} (plan : Plan) (is_plan : IsPlan plan) (history : S → Lis
   begins_keep n few old (asks i what) new inv b = asks_keep n few old i what new inv b
   begins_keep n few old (ticks at) new inv (owed, server, st, leaves) =
       subst (Inv plan history (suc n)) (sym leaves)
-      (raised n _ (quiet_keeps plan is_plan history step laws n (record old { time = max old.time at }) event.Tick owed server (timed n old (max old.time at) inv) st (laws.ticks old.server (max old.time at) owed server st)))
+      (raised n _ (quiet_keeps plan is_plan history step laws n (record old { time = max old.time at }) event.Tick owed server (timed n old (max old.time at) inv) st
+      (laws.ticks old.server (max old.time at) owed server (asked_at_once plan old.asks old.gateway.kept (history old.server) inv.entries) st)))
   begins_keep n few old restarts new inv (owed, server, st, leaves) =
       subst (Inv plan history (suc n)) (sym leaves) (raised n _ (quiet_keeps plan is_plan history step laws n old event.Restart owed server inv st (laws.restarts old.server old.time owed server st)))
   begins_keep n few old gateway_restarts new inv b = gateway_restarted n old new inv b

@@ -1,5 +1,5 @@
 -- A datagram that finds its entry remembered adds nothing.
-use Rattle.std.proofs.Common.{◌≡◌, inl, inr, ℕ, List, Option, Some, None, refl, ap, ◌∙◌, subst}
+use Rattle.std.proofs.Common.{◌≡◌, inl, inr, ℕ, List, Option, Some, None, refl, ap, ◌∙◌, subst, sym}
 use Rattle.dots_host.specs.declared.event.Event.TheVariants as event
 use Rattle.dots_host.specs.declared.out.OwnedOut.{OwnedOut}
 use Rattle.dots_settings.specs.Settings.{SettingsValue}
@@ -18,13 +18,16 @@ use Rattle.dots_machine.specs.Apart.{domain_of}
 use Rattle.dots_machine.specs.MessageRepeats.{sent_for, IsRepeatOf, unless_repeated}
 use Rattle.dots_machine.specs.Mitigations.{unless_faulty, request_of, judged}
 use Rattle.dots_machine.specs.Deciding.{in_domain, with_mid, put_in, put_for, asks_for}
-use Rattle.dots_machine.specs.Machine.{State, later, DecidesRequest, Rules, Decides, by_silence, by_rules, for_want_of_memory, after, Step}
-use Rattle.dots_machine.proofs.Hearing.{answer_history}
+use Rattle.dots_machine.specs.Machine.{State, later, DecidesRequest, Rules, Decides, by_silence, by_rules, for_want_of_memory, after, Step, Answers}
+use Rattle.dots_machine.proofs.Hearing.{answer_history, hears_adds, hears_time}
 use Rattle.dots_machine.proofs.OneAnswer.{one_thing}
 use Rattle.dots_machine.proofs.RepeatAnswers.{request_repeated}
 use Rattle.machine_laws.specs.Adding.{Carries, CarriesRequest, AddsWhatIsAsked}
 use Rattle.machine_laws.proofs.Adding.{step_adds}
 use Rattle.dots_world.specs.Once.{Finds}
+use Rattle.dots_world.proofs.AtOnce.{AtOnce, nothing_back}
+use Rattle.dots_machine.specs.Requests.{IsReceived}
+use Rattle.dots_machine.specs.Domains.{is_gateway}
 
 module _ (settings : SettingsValue) (state : State) (peer : ℕ) (v : Verdict) where
   abbrev Keeps : Verdict → Type 0
@@ -57,17 +60,30 @@ module _ (settings : SettingsValue) (state : State) (peer : ℕ) (v : Verdict) w
   request_keeps x (request.GetConfig sid) domain entry e c found is decides = absurd c
   request_keeps x (request.PutHeartbeat heard) domain entry e c found is decides = absurd c
 
-pub found_keeps : (settings : SettingsValue) (old : State) (at peer : ℕ) (bytes : List ℕ) (entry : Entry) (owed : List (State × OwnedOut)) (new : State) → AreBytes bytes
+pub found_keeps : (settings : SettingsValue) (old : State) (at peer : ℕ) (bytes : List ℕ) (entry : Entry) (owed : List (State × OwnedOut)) (new : State) → AtOnce old.history → AreBytes bytes
     → Finds settings old at peer bytes entry → Step settings old (event.Datagram peer bytes) at owed new → new.history ≡ old.history
-found_keeps settings old at peer bytes entry owed new are finds st = by (step_adds settings old peer bytes at owed new st)
+found_keeps settings old at peer bytes entry owed new now are finds st = by (step_adds settings old peer bytes at owed new st)
   where
-    by_decision : (e : Entry) (c : CarriesRequest settings (later old at).time peer bytes e) (v : Verdict) → Decides settings (later old at) peer bytes v → (after v (later old at)).history ≡ old.history
-    by_decision e c v (by_silence stranger is) = ap (λ w. (after w (later old at)).history) is
-    by_decision e c v (for_want_of_memory known lacks) = ap (λ w. (after w (later old at)).history) lacks.answer
+    a : Answers settings (later old at) peer bytes st.0 new
+    a = st.2
+
+    met_is : a.met.history ≡ old.history
+    met_is = nothing_back settings (later old at).time peer old.history a.met.history now (hears_adds settings peer bytes (later old at) a.met a.hears)
+
+    -- it finds the entry where its peer was heard, too
+    finds_there : (x : Exchange) (asked : Request) (domain : ℕ) → IsReceived bytes (is_gateway (role_of settings peer)) (received.Asked x asked) → domain_of settings (role_of settings peer) asked ≡ Some domain
+        → IsRepeatOf settings.limits.remembered a.met.time a.met.history (sent_for peer x domain) entry
+    finds_there x asked domain got is =
+        subst (λ t. IsRepeatOf settings.limits.remembered t a.met.history (sent_for peer x domain) entry) (sym (hears_time settings peer bytes (later old at) a.met a.hears))
+        (subst (λ es. IsRepeatOf settings.limits.remembered (later old at).time es (sent_for peer x domain) entry) (sym met_is) (finds x asked domain got is))
+
+    by_decision : (e : Entry) (c : CarriesRequest settings (later old at).time peer bytes e) (v : Verdict) → Decides settings a.met peer bytes v → (after v a.met).history ≡ a.met.history
+    by_decision e c v (by_silence stranger is) = ap (λ w. (after w a.met).history) is
+    by_decision e c v (for_want_of_memory known lacks) = ap (λ w. (after w a.met).history) lacks.answer
     by_decision e c v (by_rules known got also rules) =
-        request_keeps settings (later old at) peer v c.exchange c.asked e.domain entry e c.carries c.domain_is (finds c.exchange c.asked e.domain c.received c.domain_is)
-        (subst (λ g. Rules settings (later old at) peer g v) (one_thing settings (later old at) peer bytes are got (received.Asked c.exchange c.asked) also c.received) rules)
+        request_keeps settings a.met peer v c.exchange c.asked e.domain entry e c.carries c.domain_is (finds_there c.exchange c.asked e.domain c.received c.domain_is)
+        (subst (λ g. Rules settings a.met peer g v) (one_thing settings a.met peer bytes are got (received.Asked c.exchange c.asked) also c.received) rules)
 
     by : AddsWhatIsAsked settings (later old at).time peer bytes old.history new.history → new.history ≡ old.history
-    by (inl same) = same
-    by (inr (e, is, c)) = answer_history settings (later old at) peer bytes st.0 new st.2 ∙ by_decision e c st.2.decided st.2.decides
+    by (met, back, inl same) = same ∙ nothing_back settings (later old at).time peer old.history met now back
+    by (met, back, inr (e, is, c)) = answer_history settings (later old at) peer bytes st.0 new a ∙ by_decision e c a.decided a.decides ∙ met_is

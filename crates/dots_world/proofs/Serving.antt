@@ -28,6 +28,7 @@ use Rattle.dots_world.proofs.Lists.{not_in_none, contains_cases, by_last, by_par
 use Rattle.dots_world.proofs.Messages.{IsAnswer}
 use Rattle.dots_world.proofs.Kept.{Within, AsksInv, SaysGrant, IsFrom, EntriesInv, ClientsInv, GatewayInv, PacketsInv, Answered, Says, SaysOf, row_more, packets_more}
 use Rattle.dots_world.proofs.Received.{asked_of_server, no_server_at}
+use Rattle.dots_world.proofs.AtOnce.{AtOnce, carried_at_once}
 
 -- nothing was added, or one entry of which this holds
 abbrev pub AddsOne : List Entry → List Entry → (Entry → Type 0) → Type 0
@@ -43,16 +44,16 @@ pub record IsEntryOf (plan : Plan) (peer number : ℕ) (cuid : List ℕ) (mid : 
 
 -- the laws by which a server is known here, whatever it is
 pub record IsServing {S : Type 0} (plan : Plan) (history : S → List Entry) (step : S → Event → ℕ → List (S × OwnedOut) → S → Type 0) : Type 0 where
-  pub ticks : (old : S) (at : ℕ) (owed : List (S × OwnedOut)) (new : S) → step old event.Tick at owed new → history new ≡ history old
+  pub ticks : (old : S) (at : ℕ) (owed : List (S × OwnedOut)) (new : S) → AtOnce (history old) → step old event.Tick at owed new → history new ≡ history old
   pub restarts : (old : S) (at : ℕ) (owed : List (S × OwnedOut)) (new : S) → step old event.Restart at owed new → history new ≡ history old
-  pub answers : (old : S) (peer : ℕ) (m : CoapMessage) (at : ℕ) (owed : List (S × OwnedOut)) (new : S) → IsMessage m → is_request m ≡ false
+  pub answers : (old : S) (peer : ℕ) (m : CoapMessage) (at : ℕ) (owed : List (S × OwnedOut)) (new : S) → AtOnce (history old) → IsMessage m → is_request m ≡ false
       → step old (event.Datagram peer (spelling m)) at owed new → history new ≡ history old
   pub asked : (old : S) (peer number mid : ℕ) (cuid : List ℕ) (aim : Aim) (domain at : ℕ) (owed : List (S × OwnedOut)) (new : S)
-      → role_of plan.settings peer ≡ role.Client domain → IsTrue (is_name cuid) → mid < 2 ^ 32 → CanSay aim → AreBytes (spelling (message_with number cuid mid aim))
+      → AtOnce (history old) → role_of plan.settings peer ≡ role.Client domain → IsTrue (is_name cuid) → mid < 2 ^ 32 → CanSay aim → AreBytes (spelling (message_with number cuid mid aim))
       → step old (event.Datagram peer (spelling (message_with number cuid mid aim))) at owed new
       → AddsOne (history old) (history new) (λ e. (e.domain ≡ domain) × IsEntryOf plan peer number cuid mid aim e)
   pub forwards : (old : S) (peer next number mid : ℕ) (domain cuid : List ℕ) (aim : Aim) (at : ℕ) (owed : List (S × OwnedOut)) (new : S)
-      → role_of plan.settings peer ≡ role.Gateway → IsTrue (is_client_name domain) → IsTrue (is_client_name cuid) → mid < 2 ^ 32 → CanSay aim
+      → AtOnce (history old) → role_of plan.settings peer ≡ role.Gateway → IsTrue (is_client_name domain) → IsTrue (is_client_name cuid) → mid < 2 ^ 32 → CanSay aim
       → AreBytes (spelling (forwarded next domain (passage_for cuid mid) (message_with number cuid mid aim)))
       → step old (event.Datagram peer (spelling (forwarded next domain (passage_for cuid mid) (message_with number cuid mid aim)))) at owed new
       → AddsOne (history old) (history new) (λ e. (named_domain plan.settings domain ≡ Some e.domain) × IsEntryOf plan peer next cuid mid aim e)
@@ -67,6 +68,10 @@ pub record Inv {S : Type 0} (plan : Plan) (history : S → List Entry) (n : ℕ)
   pub gateway : GatewayInv plan n w.asks w.gateway.core w.gateway.kept
   pub packets : PacketsInv plan w.asks w.gateway.kept (history w.server) w.packets
   pub entries : EntriesInv plan w.asks w.gateway.kept (history w.server)
+
+-- what was asked for is at once
+pub asked_at_once : (plan : Plan) (asks : List MadeAsk) (kept : List Exchange) (history : List Entry) → EntriesInv plan asks kept history → AtOnce history
+asked_at_once plan asks kept history inv e there = let from = inv e there in carried_at_once plan.settings from.ask.aim from.ask.mid e from.of.carries
 
 -- the history is longer, if at all, and each entry of it was asked for
 abbrev pub Grows : Plan → List MadeAsk → List Exchange → List Entry → List Entry → Type 0
@@ -93,10 +98,10 @@ IsFromBy plan asks kept source bytes e = (f : IsFrom plan asks kept e) × Carrie
 module _ {S : Type 0} (plan : Plan) (is_plan : IsPlan plan) (history : S → List Entry) (step : S → Event → ℕ → List (S × OwnedOut) → S → Type 0) (laws : IsServing plan history step) where
   -- ---- a datagram adds what was asked
 
-  module _ (n : ℕ) (asks : List MadeAsk) (kept : List Exchange) (asked_inv : AsksInv plan n asks) (old : S) (at : ℕ) (owed : List (S × OwnedOut)) (new : S) (peer : ℕ) where
+  module _ (n : ℕ) (asks : List MadeAsk) (kept : List Exchange) (asked_inv : AsksInv plan n asks) (old : S) (now : AtOnce (history old)) (at : ℕ) (owed : List (S × OwnedOut)) (new : S) (peer : ℕ) where
     silent : (P : Entry → Type 0) (bytes : List ℕ) → IsAnswer bytes → step old (event.Datagram peer bytes) at owed new → AddsOne (history old) (history new) P
     silent P bytes a st =
-        inl (laws.answers old peer a.message at owed new a.is_message a.asks (subst (λ b. step old (event.Datagram peer b) at owed new) a.spelled st))
+        inl (laws.answers old peer a.message at owed new now a.is_message a.asks (subst (λ b. step old (event.Datagram peer b) at owed new) a.spelled st))
 
     of_client : (source : Party) (i : ℕ) (c : PlanClient) (bytes : List ℕ) → source ≡ a_client i → slice_get plan.clients i ≡ Some c → c.behind ≡ false → c.peer ≡ peer → AreBytes bytes
         → (a : MadeAsk) → Contains asks a → a.who ≡ i → bytes ≡ spelling (message_by c.cuid a) → step old (event.Datagram peer bytes) at owed new
@@ -122,7 +127,7 @@ module _ {S : Type 0} (plan : Plan) (is_plan : IsPlan plan) (history : S → Lis
           },
           sent c (ap (slice_get plan.clients) who ∙ planned) (source_is ∙ ap a_client (sym who)) spelled,
         ))
-        (laws.asked old peer a.number a.mid c.cuid a.aim whose.0 at owed new (ap (role_of plan.settings) (sym peer_is) ∙ whose.1) valid.named good.mid good.can
+        (laws.asked old peer a.number a.mid c.cuid a.aim whose.0 at owed new now (ap (role_of plan.settings) (sym peer_is) ∙ whose.1) valid.named good.mid good.can
         (subst AreBytes spelled are) (subst (λ b. step old (event.Datagram peer b) at owed new) spelled st))
 
     pub from_source : (source : Party) (target : Option Party) (bytes : List ℕ) → target ≡ Some the_server → to_server plan source ≡ Some peer → Says plan asks kept (history old) source target bytes
@@ -145,7 +150,7 @@ module _ {S : Type 0} (plan : Plan) (is_plan : IsPlan plan) (history : S → Lis
           },
           sent_on f.x f.made f.of f.domain refl f.spelled,
         ))
-        (laws.forwards old peer f.x.number f.ask.number f.ask.mid f.domain f.of.c.cuid f.ask.aim at owed new (ap (role_of plan.settings) (sym gateway_is) ∙ is_plan.gateway)
+        (laws.forwards old peer f.x.number f.ask.number f.ask.mid f.domain f.of.c.cuid f.ask.aim at owed new now (ap (role_of plan.settings) (sym gateway_is) ∙ is_plan.gateway)
         (is_plan.names f.of.c.peer f.domain f.named) f.cuid good.mid good.can (subst AreBytes f.spelled are) (subst (λ b. step old (event.Datagram peer b) at owed new) f.spelled st))
     from_source the_gateway target bytes is peer_is (inl (goes, inr a)) are st = silent _ bytes a st
     from_source the_gateway target bytes is peer_is (inr (to, goes, grants)) are st = absurd (no_server_at _ (sym goes ∙ is))
@@ -189,7 +194,7 @@ module _ {S : Type 0} (plan : Plan) (is_plan : IsPlan plan) (history : S → Lis
       served_keeps n w (event.Datagram peer p.bytes) owed server inv st
       (grows_one plan w.asks w.gateway.kept (history w.server) (history server) inv.entries
       (adds_weaker (history w.server) (history server) (IsFromBy plan w.asks w.gateway.kept p.source p.bytes) (IsFrom plan w.asks w.gateway.kept) (λ e is. is.0)
-      (from_source n w.asks w.gateway.kept inv.asks w.server w.time owed server peer p.source p.target p.bytes target peer_is (inv.packets p there) are st)))
+      (from_source n w.asks w.gateway.kept inv.asks w.server (asked_at_once plan w.asks w.gateway.kept (history w.server) inv.entries) w.time owed server peer p.source p.target p.bytes target peer_is (inv.packets p there) are st)))
 
   pub quiet_keeps : (n : ℕ) (w : World S) (came : Event) (owed : List (S × OwnedOut)) (server : S) → Inv plan history n w → step w.server came w.time owed server
       → history server ≡ history w.server → Inv plan history n (served plan w came owed server)

@@ -31,11 +31,11 @@ pub record IsGrantedTo (plan : Plan) (history : List Entry) (i : ℕ) (row : Gra
 
 -- ---- what the server accepted
 
--- what was asked, with what the settings grant of the lifetime
+-- what was asked, at once, with what the settings grant of the lifetime
 abbrev pub Carries : SettingsValue → Aim → ℕ → Entry → Type 0
 Carries settings (mitigates asked lifetime) mid entry =
     (put : Put) × (entry.change ≡ change.Put put) × (put.mid ≡ mid) × (put.asked ≡ asked)
-    × (put.granted ≡ granted lifetime (pos settings.ceiling) settings.indefinite)
+    × (put.granted ≡ granted lifetime (pos settings.ceiling) settings.indefinite) × (put.trigger ≡ true)
 Carries settings withdraws mid entry = entry.change ≡ change.Withdraw mid
 
 -- The entry is of this ask: it carries it for the client's own domain, and under its name.

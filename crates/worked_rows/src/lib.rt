@@ -93,6 +93,8 @@ mod session_rows;
 #[cfg(test)]
 mod shown_rows;
 #[cfg(test)]
+mod signal_rows;
+#[cfg(test)]
 mod tables;
 #[cfg(test)]
 mod texts;

@@ -23,6 +23,7 @@ use crate::script_rows::SCRIPTS;
 use crate::scripted::goes_over_script;
 use crate::session_rows::SESSIONS;
 use crate::shown_rows::SHOWN;
+use crate::signal_rows::SIGNALS;
 use crate::tables::Row;
 use crate::topic_rows::{EVENTS, FAULTS, WORDS};
 use crate::{ask_rows, checks};
@@ -82,6 +83,7 @@ fn runs_over_scripts(rt: HostRuntime) {
     all_hold(&rt, alloc, LAST_TWO);
     all_hold(&rt, alloc, RESTARTS);
     all_hold(&rt, alloc, SESSIONS);
+    all_hold(&rt, alloc, SIGNALS);
     all_hold(&rt, alloc, SCRIPTS);
     all_hold(&rt, alloc, BLOCKS);
 }

@@ -44,7 +44,7 @@ pub const DONE: &str = "4ac2010fffa101a10281a205187b0e190e10";
 /// REQUEST is the datagram of a request for 192.0.2.0/24 with mid 123, lifetime 3600 s and Message ID 1, in hexadecimal, REPLY its reply,
 /// 2.01 with mid 123 and 3600 s, and ROW the line of its filter. HEAD is the datagram up to its mid, and START up to its path. CUID, MID_123 and MID_124 are options of the path. BODY stands
 /// between the mid and the array of the prefixes, and LIFETIME_3600 behind that. BY_WEB is the rest behind the mid for the alias `web` and 3600 s. NET1 and NET2 are the rest behind the mid for
-/// 192.0.2.0/24 and for 198.51.100.0/25. INSIDE and OUTSIDE are the texts of 192.0.2.0/24 and of 198.51.100.0/24, and CDID_NET1,
+/// 192.0.2.0/24 and for 198.51.100.0/25, NET1_WAITS and NET2_WAITS the same with trigger-mitigation false. INSIDE and OUTSIDE are the texts of 192.0.2.0/24 and of 198.51.100.0/24, and CDID_NET1,
 /// CDID_NET2 and CDID_NET9 options in front of the cuid. B_7 is the parameters of a client `b` and mid 7.
 ///
 /// The replies are those with the code and the payload that their names say: NO_PATH 4.04 with `path`, NO_PARAMETER 4.00 with
@@ -84,6 +84,8 @@ LIFETIME_3600 0e190e10
 BY_WEB 12010fffa101a10281a20d81637765620e190e10
 NET1 12010fffa101a10281a206816c3139322e302e322e302f32340e190e10
 NET2 12010fffa101a10281a206816f3139382e35312e3130302e302f32350e190e10
+NET1_WAITS 12010fffa101a10281a306816c3139322e302e322e302f32340e190e10182df4
+NET2_WAITS 12010fffa101a10281a306816f3139382e35312e3130302e302f32350e190e10182df4
 INSIDE 6c3139322e302e322e302f3234
 OUTSIDE 6f3139382e35312e3130302e302f3234
 CDID_NET1 09636469643d6e657431
