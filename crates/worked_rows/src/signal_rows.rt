@@ -58,12 +58,22 @@ $ replay settings
 > to 0 REPLY
 > to 0 518400094aff70617468
 
-# While it filters it is shown with status 2; who asks is heard, and so the reader is another peer of the domain, which asks under its own name.
+# Who reads it is heard by that, and so reads that it waits. An observer is told that it filters, with status 2, and that it waits again.
 < at 1000 from 0 51030001+MITIGATE+CUID+MID_123+NET1_WAITS
 < at 1500 tick
 < at 1501 from 0 51010002+MITIGATE+CUID+MID_123
 > to 0 REPLY
 > to 0 51450002+CBOR+a101a10281a605187b06816c3139322e302e322e302f32340e190c1b0f1903e81008182df4
+
+< at 1000 from 0 51030001+MITIGATE+CUID+MID_123+NET1_WAITS
+< at 1001 from 0 51010002+OBSERVE+CUID+MID_123+43633d6e
+< at 1500 tick
+< at 1501 from 0 40001234
+> to 0 REPLY
+> to 0 514500024a6101+SEEN+a101a10281a305187b0f1903e81008
+> to 0 514503e84a6102+SEEN+a101a10281a305187b0f1903e81002
+> to 0 70001234
+> to 0 514503e94a6103+SEEN+a101a10281a305187b0f1903e81008
 
 # After a restart a session begins at the first tick, so that a silence is noticed by a server that heard nobody.
 < at 1000 from 0 51030001+MITIGATE+CUID+MID_123+NET1_WAITS
