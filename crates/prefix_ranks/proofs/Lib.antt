@@ -7,3 +7,4 @@ pub mod Runs
 pub mod Covered
 pub mod BesideRanks
 pub mod Sifted
+pub mod Merged

@@ -151,7 +151,7 @@ rest_is : (kept holes : ℕ) (front gap rest : List Rank) → length front ≡ k
 rest_is kept holes front gap rest first second =
     ap (drop (kept + holes)) (sym (append_assoc front gap rest)) ∙ drop_at (front ++ gap) rest (kept + holes) (omega (arith, first, second, length-append front gap))
 
-get_at : (front : List Rank) (r : Rank) (behind : List Rank) (d : Rank) (n : ℕ) → length front ≡ n → get_or (front ++ r ∷ behind) n d ≡ r
+pub get_at : (front : List Rank) (r : Rank) (behind : List Rank) (d : Rank) (n : ℕ) → length front ≡ n → get_or (front ++ r ∷ behind) n d ≡ r
 get_at [] r behind d zero is = refl
 get_at [] r behind d (suc n) is = absurd (omega (arith, is))
 get_at (x ∷ front) r behind d zero is = absurd (omega (arith, is))

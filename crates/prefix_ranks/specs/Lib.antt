@@ -5,3 +5,4 @@ pub mod Laws
 pub mod Covers
 pub mod Beside
 pub mod Sifting
+pub mod Merging
