@@ -7,3 +7,4 @@ pub mod Bests
 pub mod Found
 pub mod RowsInSlots
 pub mod BlocksGone
+pub mod Stored

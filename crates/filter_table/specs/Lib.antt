@@ -5,3 +5,4 @@ pub mod Rows
 pub mod Slots
 pub mod Best
 pub mod Blocks
+pub mod Storing

@@ -1,5 +1,5 @@
 -- The rows that a filter table holds, in order of place, and what each call makes of them.
-use Rattle.std.specs.Prelude.{ℕ, ◌+◌, Bool, not, ◌&&◌, ◌==◌, nat_le, true, false, if◌then◌else◌, List, [], ◌∷◌, map, filter, Option, bytes_eq}
+use Rattle.std.specs.Prelude.{◌≡◌, ℕ, ◌+◌, ◌<◌, Bool, not, ◌&&◌, ◌==◌, nat_le, true, false, if◌then◌else◌, List, [], ◌∷◌, map, filter, Option, None, bytes_eq}
 use Rattle.std.specs.List.{insert, prefix_len, find}
 use Rattle.acl_lists.specs.declared.acl.Activation.{Activation}
 use Rattle.acl_lists.specs.declared.acl.Activation.TheVariants.{WhenMitigating, Immediate, Deactivate}
@@ -38,6 +38,13 @@ scrub_in slot placed = find (λ (scrub : PlacedScrub). scrub.slot == slot) place
 -- one more row, behind those whose place is not greater
 abbrev pub with_scrub : PlacedScrub → List PlacedScrub → List PlacedScrub
 with_scrub scrub placed = insert placed (prefix_len (λ (other : PlacedScrub). nat_le other.place scrub.place) placed) scrub
+
+-- rows put in one after the other, each into a slot that no row stands in, the first at this place and each other at the next one
+abbrev pub AreInstalled : ℕ → ℕ → List ScrubRow → List PlacedScrub → List PlacedScrub → Type 0
+AreInstalled room place [] placed later = later ≡ placed
+AreInstalled room place (row ∷ rows) placed later =
+    (slot : ℕ) × (slot < room) × (scrub_in slot placed ≡ None)
+    × AreInstalled room (place + 1) rows (with_scrub (record { slot = slot; place = place; row = row }) placed) later
 
 abbrev pub row_is_of : ℕ → List ℕ → ℕ → ScrubRow → Bool
 row_is_of domain cuid mid row = is_of_client domain cuid row.domain row.cuid && (row.mid == mid)

@@ -21,6 +21,7 @@ mod placed;
 mod rows;
 mod scrubs;
 mod slot_rows;
+mod storing;
 mod table;
 mod turn;
 

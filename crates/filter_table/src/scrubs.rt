@@ -1,10 +1,10 @@
 //! The rows of mitigations, each in a slot of its own.
 
-ghost use Rattle.std.specs.Prelude.{◌≡◌, ℕ, ◌<◌, ◌≤◌, ◌^◌, [], None, Some, true, false, map, filter, length, nat_le, nat_lt, not, option_map, IsSome, IfSome, IfNone, IfOk, vec_capacity};
+ghost use Rattle.std.specs.Prelude.{◌≡◌, ℕ, ◌+◌, ◌<◌, ◌≤◌, ◌^◌, [], None, Some, true, false, map, filter, length, nat_le, nat_lt, not, option_map, IsSome, IfSome, IfNone, IfOk, vec_capacity};
 ghost use Rattle.std.specs.List.{prefix_len, position, insert, remove, AllByRecursion};
 ghost use Rattle.filter_rows.specs.Fates.{scrubbing_mid};
 ghost use Rattle.prefix_ranks.specs.Ranks.{kind_of, ranked, is_of_kind, slot_of};
-ghost use Rattle.filter_table.specs.TableRows.{ScrubsValue, scrub_in, with_scrub, without_mitigation, woken, renumbered, scrub_at_place, place_of_scrub, rank_of, row_of_scrub, active_rows};
+ghost use Rattle.filter_table.specs.TableRows.{ScrubsValue, scrub_in, with_scrub, AreInstalled, without_mitigation, woken, renumbered, scrub_at_place, place_of_scrub, rank_of, row_of_scrub, active_rows};
 ghost use Rattle.filter_table.specs.Laws.{AreInOrder};
 ghost use Rattle.prefix_ranks.specs.Sifting.{is_between};
 ghost use Rattle.filter_table.specs.Blocks.{stays_outside};
@@ -16,6 +16,7 @@ use crate::marks::{first_of, mark_of, marks_of, wake_marked};
 use crate::placed::number_after;
 use crate::rows::ScrubRows;
 use crate::slot_rows::{all_slots, empty_slot, empty_slots, fill_slot, row_in};
+use crate::storing::store_all;
 use crate::turn::Turn;
 use acl_lists::Packet;
 use dots_lists::NoMemory;
@@ -36,11 +37,14 @@ pub struct Scrubs {
     ranking: Ranking,
     /// The slots in order of the domains and mids of their rows.
     marks: Ranking,
+    /// The ranks of rows that come at once, before they are put among the others, and their marks.
+    new_ranks: Ranking,
+    new_marks: Ranking,
     room: usize,
 }
 
 impl Model for Scrubs {
-    ghost use Rattle.std.specs.Prelude.{◌≤◌, vec_capacity};
+    ghost use Rattle.std.specs.Prelude.{◌≡◌, ◌≤◌, vec_capacity};
     ghost use Rattle.filter_table.specs.TableRows.{ScrubsValue};
     ghost use Rattle.filter_table.specs.Rows.{gathered};
     ghost use Rattle.filter_table.specs.Slots.{StandInSlots};
@@ -52,7 +56,9 @@ impl Model for Scrubs {
     ghost invariant = { λ scrubs.
         StandInSlots scrubs.room scrubs.rows.items scrubs.turns.items scrubs.free.items scrubs.ranking scrubs.marks
         × (scrubs.room ≤ vec_capacity scrubs.turns)
-        × (scrubs.room ≤ vec_capacity scrubs.free) };
+        × (scrubs.room ≤ vec_capacity scrubs.free)
+        × (scrubs.new_ranks.room ≡ scrubs.room)
+        × (scrubs.new_marks.room ≡ scrubs.room) };
 }
 
 impl Scrubs {
@@ -67,6 +73,8 @@ impl Scrubs {
             free: all_slots(alloc, room as u32)?,
             ranking: Ranking::new(alloc, room)?,
             marks: Ranking::new(alloc, room)?,
+            new_ranks: Ranking::new(alloc, room)?,
+            new_marks: Ranking::new(alloc, room)?,
             room,
         })
     }
@@ -95,6 +103,29 @@ impl Scrubs {
         self.marks.put(mark_of(&row, place, slot));
         put_turn(&mut self.turns, at, Turn { place, slot });
         fill_slot(&mut self.rows, slot, row);
+    }
+
+    /// Puts rows into free slots, each behind those whose place is not greater. The first has this place, and each other the next
+    /// one. What stands between their ranks is moved once.
+    pub fn install_all(&mut self, place: u64, own: Vec<ScrubRow>)
+        requires room { length self.old.placed + length own.items ≤ self.old.room }
+        requires places { place + length own.items < 2 ^ 64 }
+        ensures room { self.new.room ≡ self.old.room }
+        ensures rows { AreInstalled self.old.room place own.items self.old.placed self.new.placed }
+    {
+        self.new_ranks.clear();
+        self.new_marks.clear();
+        store_all(
+            own,
+            place,
+            &mut self.rows,
+            &mut self.turns,
+            &mut self.free,
+            &mut self.new_ranks,
+            &mut self.new_marks,
+        );
+        self.ranking.put_all(&self.new_ranks);
+        self.marks.put_all(&self.new_marks);
     }
 
     /// Takes the row whose turn is at this position out.
@@ -246,7 +277,7 @@ impl Scrubs {
 }
 
 /// How many turns stand before one that is put in at this place.
-fn place_after(place: u64, turns: &[Turn]) -> usize
+pub(crate) fn place_after(place: u64, turns: &[Turn]) -> usize
     requires { AreInOrder place_of_turn turns.now }
     ensures value { result ≡ prefix_len (λ other. nat_le other.place place) turns.now }
     ensures within { result ≤ length turns.now }
@@ -310,7 +341,7 @@ fn cut_between(low: u64, high: u64, turns: &mut Vec<Turn>)
 }
 
 /// Puts a turn in at this position, for which there is room.
-fn put_turn(turns: &mut Vec<Turn>, at: usize, turn: Turn)
+pub(crate) fn put_turn(turns: &mut Vec<Turn>, at: usize, turn: Turn)
     requires within { at ≤ length turns.old.items }
     requires room { length turns.old.items < vec_capacity turns.old }
     ensures items { turns.new.items ≡ insert turns.old.items at turn }

@@ -2,7 +2,7 @@ ghost use Rattle.std.specs.Prelude.{◌≡◌, ℕ, ◌+◌, ◌<◌, ◌≤◌,
 ghost use Rattle.std.specs.List.{All, AllByRecursion};
 ghost use Rattle.filter_rows.specs.HandedOut.{fate_of};
 ghost use Rattle.filter_rows.specs.Fates.{fate_by_rows};
-ghost use Rattle.filter_table.specs.TableRows.{scrub_in, with_scrub, without_mitigation, woken, with_acl, without_acl, activated, renumbered, place_of_scrub, scrub_at_place, place_of_acl, acl_at_place, row_of_scrub, row_of_acl, active_rows};
+ghost use Rattle.filter_table.specs.TableRows.{scrub_in, with_scrub, AreInstalled, without_mitigation, woken, with_acl, without_acl, activated, renumbered, place_of_scrub, scrub_at_place, place_of_acl, acl_at_place, row_of_scrub, row_of_acl, active_rows};
 ghost use Rattle.dots_settings.specs.Lookups.{prefixes_of};
 ghost use Rattle.filter_table.specs.Table.{TableValue, slots_of};
 
@@ -71,6 +71,22 @@ impl FilterTable {
         }) }
     {
         self.scrubs.install(place, row);
+    }
+
+    /// Puts rows of mitigations into free slots, the first at this place and each other at the next one. Which slots is left open.
+    /// No other row changes its slot.
+    pub fn install_all(&mut self, place: u64, rows: Vec<ScrubRow>)
+        requires room { length self.old.scrubs + length rows.items ≤ self.old.scrub_room }
+        requires places { place + length rows.items < 2 ^ 64 }
+        ensures rows { AreInstalled self.old.scrub_room place rows.items self.old.scrubs self.new.scrubs }
+        ensures others { self.new ≡ record {
+          scrub_room = self.old.scrub_room;
+          acl_room = self.old.acl_room;
+          scrubs = self.new.scrubs;
+          acls = self.old.acls;
+        } }
+    {
+        self.scrubs.install_all(place, rows);
     }
 
     /// Takes each row of this mitigation out.

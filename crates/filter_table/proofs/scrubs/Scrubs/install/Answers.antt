@@ -41,7 +41,7 @@ invariant_of-self c =
     let kept = installs_row c.self.inside.room c.self.inside.rows.items c.fill_slot.new.rows.items c.self.inside.turns.items c.put_turn.new.turns.items
     c.self.inside.free.items c.pop.new.self.items c.self.inside.ranking c.put.new.self c.self.inside.marks c.put-2.new.self c.args.place c.in-Some.slot c.place_after-at.result c.args.row
     c.self.invariant.0 c.in-Some.ensures.items c.of.ensures.valid here now marked c.fill_slot.ensures c.put_turn.ensures.items in
-    (kept.stand, omega arith, omega arith)
+    (kept.stand, omega arith, omega arith, c.self.invariant.3, c.self.invariant.4)
 
 pub returns : goal.returns
 returns c =

@@ -30,7 +30,7 @@ invariant_of-self c =
     let kept = goes c.args.low c.args.high c.self.inside.room c.self.inside.rows.items c.empty_run.new.rows.items c.self.inside.turns.items c.cut_between.new.turns.items c.run_between-run.result.now
     c.self.inside.free.items c.empty_run.new.free.items c.self.inside.ranking c.keep_outside.new.self c.self.inside.marks c.keep_outside-2.new.self c.self.invariant.0 run
     c.empty_run.ensures.rows c.empty_run.ensures.free c.cut_between.ensures.items c.keep_outside.ensures c.keep_outside-2.ensures in
-    (kept.stand, omega arith, omega arith)
+    (kept.stand, omega arith, omega arith, c.self.invariant.3, c.self.invariant.4)
 
 pub returns : goal.returns
 returns c =

@@ -38,7 +38,7 @@ invariant_of-self c =
     ∙ ap (λ (ts : List Turn). ranking_value c.self.inside.marks.room (ranked (map mark_of (gathered c.self.inside.rows.items ts)))) c.as_slice.ensures.value in
     let kept = renumbers_rows c.self.inside.room c.self.inside.rows.items c.self.inside.turns.items c.renumber_turns.new.turns.items c.self.inside.free.items c.self.inside.ranking c.rank_all.new.ranking c.self.inside.marks c.rank_all.new.marks
     c.self.invariant.0 c.renumber_turns.ensures.items now marked in
-    (kept.stand, omega arith, omega arith)
+    (kept.stand, omega arith, omega arith, c.self.invariant.3, c.self.invariant.4)
 
 pub returns : goal.returns
 returns c =

@@ -49,7 +49,7 @@ invariant_of-self c =
     let kept = removes_row c.self.inside.room c.self.inside.rows.items c.empty_slot.new.rows.items c.self.inside.turns.items c.remove-turn.new.self.items c.self.inside.free.items
     c.push_reserved.new.self.items c.self.inside.ranking c.take.new.self c.self.inside.marks c.take-2.new.self c.args.at c.remove-turn.result c.in-Some.row c.self.invariant.0 within c.remove-turn.ensures.value
     (sym c.in-Some.ensures.row) c.push_reserved.ensures.items now marked c.empty_slot.ensures.items c.remove-turn.ensures.items in
-    (kept.stand, omega arith, omega arith)
+    (kept.stand, omega arith, omega arith, c.self.invariant.3, c.self.invariant.4)
 
 pub returns : goal.returns
 returns c =
