@@ -1,6 +1,6 @@
 -- What the calls of a filter table make of the rows, where each new one has a place behind all others.
-use Rattle.std.proofs.Common.{◌≡◌, ℕ, ◌+◌, ◌<◌, ◌≤◌, Bool, true, false, cond, not, ◌&&◌, List, [], ◌∷◌, ◌++◌, map, length, filter, refl, sym, ap, ◌∙◌, subst, ◌*◌, le_trans, mul_comm, mul-le-mul_right, arith}
-use Rattle.std.specs.Prelude.{nat_le, None}
+use Rattle.std.proofs.Common.{◌≡◌, ℕ, ◌+◌, ◌<◌, ◌≤◌, Bool, true, false, cond, not, ◌&&◌, List, [], ◌∷◌, ◌++◌, map, length, filter, refl, sym, ap, ◌∙◌, subst, ◌*◌, le_trans, mul_comm, mul-le-mul_right, arith, append_assoc, append-nil}
+use Rattle.std.specs.Prelude.{nat_le}
 use Rattle.std.specs.List.{insert, prefix_len, AllByRecursion}
 use Rattle.std.proofs.lemmas.Bool.{cond_both, le-leb}
 use Rattle.std.proofs.lemmas.List.{map-append, length-append, length-map}
@@ -8,7 +8,7 @@ use Rattle.std.proofs.lemmas.List.Edits.{insert_end}
 use Rattle.filter_rows.specs.declared.rows.ScrubRow.{ScrubRow}
 use Rattle.filter_rows.specs.declared.rows.AclRow.{AclRow}
 use Rattle.filter_table.specs.declared.placed.PlacedAcl.{PlacedAcl}
-use Rattle.filter_table.specs.TableRows.{PlacedScrub, with_scrub, without_mitigation, woken, scrub_set, row_set, row_woken, with_acl, without_acl, activated, renumbered, renumbered_from, number_after, place_of_scrub, scrub_at_place, place_of_acl, acl_at_place, is_of, is_named, is_of_client, waits, acl_set, scrub_in, row_is_of}
+use Rattle.filter_table.specs.TableRows.{PlacedScrub, AreInstalled, without_mitigation, woken, scrub_set, row_set, row_woken, with_acl, without_acl, activated, renumbered, renumbered_from, number_after, place_of_scrub, scrub_at_place, place_of_acl, acl_at_place, is_of, is_named, is_of_client, waits, acl_set, row_is_of}
 use Rattle.filter_table.specs.Table.{TableValue}
 use Rattle.filter_table.proofs.Places.{length-renumbered}
 use Rattle.filter_table.proofs.Orders.{activated_place}
@@ -130,58 +130,68 @@ behind place x xs all = ap (λ n. insert xs n x) (all_first place (place x) xs a
 abbrev table_with : TableValue → List PlacedScrub → List PlacedAcl → TableValue
 table_with table scrubs acls = record { scrub_room = table.scrub_room; acl_room = table.acl_room; scrubs = scrubs; acls = acls }
 
-abbrev pub IsInstalled : ℕ → ScrubRow → TableValue → TableValue → Type 0
-IsInstalled place row table new =
-    (slot : ℕ) × (slot < table.scrub_room) × (scrub_in slot table.scrubs ≡ None)
-    × (new ≡ record {
-      scrub_room = table.scrub_room;
-      acl_room = table.acl_room;
-      scrubs = with_scrub (record { slot = slot; place = place; row = row }) table.scrubs;
-      acls = table.acls;
-    })
+each_within : {A : Type 0} (place : A → ℕ) (p q : ℕ) (xs : List A) → p ≤ q → AllByRecursion (λ x. place x < p) xs → AllByRecursion (λ x. place x < q) xs
+each_within place p q [] most all = all
+each_within place p q (x ∷ xs) most all = let here = all.0 in (omega (arith, here, most), each_within place p q xs most all.1)
 
-abbrev scrub_of : ℕ → ℕ → ScrubRow → PlacedScrub
-scrub_of slot place row = record { slot = slot; place = place; row = row }
+-- rows that come behind all others
+record StandBehind (place : ℕ) (own : List ScrubRow) (placed later : List PlacedScrub) : Type 0 where
+  pub rows : map (λ (s : PlacedScrub). s.row) later ≡ map (λ (s : PlacedScrub). s.row) placed ++ own
+  pub places : AllByRecursion (λ (s : PlacedScrub). s.place < place + length own) later
+  pub number : length later ≡ length placed + length own
 
-installed_last : (place : ℕ) (row : ScrubRow) (table new : TableValue) → IsPlaced place table → (is : IsInstalled place row table new)
-    → new ≡ table_with table (table.scrubs ++ scrub_of is.0 place row ∷ []) table.acls
-installed_last place row table new placed is =
-    is.3 ∙ ap (λ xs. table_with table xs table.acls) (behind place_of_scrub (scrub_of is.0 place row) table.scrubs placed.scrubs)
+stand_behind : (room place : ℕ) (own : List ScrubRow) (placed later : List PlacedScrub) → AllByRecursion (λ (s : PlacedScrub). s.place < place) placed → AreInstalled room place own placed later
+    → StandBehind place own placed later
+stand_behind room place [] placed later below is = record {
+  rows = ap (map (λ (s : PlacedScrub). s.row)) is ∙ sym (append-nil (map (λ (s : PlacedScrub). s.row) placed));
+  places = subst (AllByRecursion (λ (s : PlacedScrub). s.place < place + length {A = ScrubRow} [])) (sym is) (each_within place_of_scrub place (place + length {A = ScrubRow} []) placed (omega arith) below);
+  number = omega (arith, ap length is);
+}
+stand_behind room place (row ∷ own) placed later below is =
+    let first : PlacedScrub = record { slot = is.0; place = place; row = row } in
+    let more : AreInstalled room (place + 1) own (placed ++ first ∷ []) later =
+    subst (λ xs. AreInstalled room (place + 1) own xs later) (behind place_of_scrub first placed below) is.3 in
+    let rest = stand_behind room (place + 1) own (placed ++ first ∷ []) later
+    (each_push (λ (s : PlacedScrub). s.place < place + 1) placed first (each_higher place_of_scrub place placed below) (omega arith)) more in
+    record {
+      rows = rest.rows ∙ ap (λ rows. rows ++ own) (map-append (λ (s : PlacedScrub). s.row) placed (first ∷ [])) ∙ append_assoc (map (λ (s : PlacedScrub). s.row) placed) (row ∷ []) own;
+      places = each_within place_of_scrub (place + 1 + length own) (place + length (row ∷ own)) later (omega arith) rest.places;
+      number = omega (arith, rest.number, length-append placed (first ∷ []));
+    }
 
-pub installed_rows : (place : ℕ) (row : ScrubRow) (first table new : TableValue) (old : FiltersValue) → filters_of first ≡ old → filters_of table ≡ filters_of first
-    → IsPlaced place table → IsInstalled place row table new → filters_of new ≡ with_rows old (old.scrubs ++ row ∷ []) old.acls
-installed_rows place row first table new old same_first kept placed is =
+pub installed_rows : (place : ℕ) (own : List ScrubRow) (first table new : TableValue) (old : FiltersValue) → filters_of first ≡ old → filters_of table ≡ filters_of first
+    → IsPlaced place table → AreInstalled table.scrub_room place own table.scrubs new.scrubs → new ≡ table_with table new.scrubs table.acls
+    → filters_of new ≡ with_rows old (old.scrubs ++ own) old.acls
+installed_rows place own first table new old same_first kept placed is others =
     let same : filters_of table ≡ old = kept ∙ same_first in
-    ap filters_of (installed_last place row table new placed is)
-    ∙ ap
-    (λ rows. with_rows (filters_of table) rows (acls_in table))
-    (map-append (λ (s : PlacedScrub). s.row) table.scrubs (scrub_of is.0 place row ∷ []))
-    ∙ ap (λ (f : FiltersValue). with_rows f (f.scrubs ++ row ∷ []) f.acls) same
+    ap filters_of others
+    ∙ ap (λ rows. with_rows (filters_of table) rows (acls_in table)) (stand_behind table.scrub_room place own table.scrubs new.scrubs placed.scrubs is).rows
+    ∙ ap (λ (f : FiltersValue). with_rows f (f.scrubs ++ own) f.acls) same
 
-pub installed_placed : (place : ℕ) (row : ScrubRow) (table new : TableValue) → IsPlaced place table → IsInstalled place row table new
-    → length table.scrubs < table.scrub_room → IsPlaced (place + 1) new
-installed_placed place row table new placed is less =
+pub installed_placed : (place next : ℕ) (own : List ScrubRow) (table new : TableValue) → IsPlaced place table → AreInstalled table.scrub_room place own table.scrubs new.scrubs
+    → new ≡ table_with table new.scrubs table.acls → length table.scrubs + length own ≤ table.scrub_room → next ≡ place + length own → IsPlaced next new
+installed_placed place next own table new placed is others fits next_is =
+    let all = stand_behind table.scrub_room place own table.scrubs new.scrubs placed.scrubs is in
     subst
-    (IsPlaced (place + 1))
-    (sym (installed_last place row table new placed is))
+    (λ (n : ℕ). IsPlaced n new)
+    (sym next_is)
+    (subst
+    (IsPlaced (place + length own))
+    (sym others)
     (record {
-      scrubs = each_push
-          (λ (s : PlacedScrub). s.place < place + 1)
-          table.scrubs
-          (scrub_of is.0 place row)
-          (each_higher place_of_scrub place table.scrubs placed.scrubs)
-          (omega arith);
-      acls = each_higher place_of_acl place table.acls placed.acls;
+      scrubs = all.places;
+      acls = each_within place_of_acl place (place + length own) table.acls (omega arith) placed.acls;
       scrub_room = placed.scrub_room;
       acl_room = placed.acl_room;
-      few_scrubs = let long = length-append table.scrubs (scrub_of is.0 place row ∷ []) in omega (arith, long, less);
+      few_scrubs = let number = all.number in omega (arith, number, fits);
       few_acls = placed.few_acls;
-    })
+    }))
 
-pub room_left : (table between : TableValue) (old : FiltersValue) → filters_of table ≡ old → filters_of between ≡ filters_of table
-    → length old.scrubs < old.scrub_room → length between.scrubs < between.scrub_room
-room_left table between old same kept less =
-    let here : length (scrubs_in between) < between.scrub_room = subst (λ (f : FiltersValue). length f.scrubs < f.scrub_room) (sym (kept ∙ same)) less in
+pub room_left : (own : List ScrubRow) (table between : TableValue) (old : FiltersValue) → filters_of table ≡ old → filters_of between ≡ filters_of table
+    → length old.scrubs + length own ≤ old.scrub_room → length between.scrubs + length own ≤ between.scrub_room
+room_left own table between old same kept fits =
+    let here : length (scrubs_in between) + length own ≤ between.scrub_room =
+    subst (λ (f : FiltersValue). length f.scrubs + length own ≤ f.scrub_room) (sym (kept ∙ same)) fits in
     let long = length-map between.scrubs (λ (s : PlacedScrub). s.row) in
     omega (arith, here, long)
 
@@ -425,17 +435,3 @@ first_room domains limits scrubs acls table is scrubs_are acls_are =
 pub product_low : (a b most most_b : ℕ) → a ≤ most → b ≤ most_b → a * b ≤ most * most_b
 product_low a b most most_b first second =
     le_trans (mul-le-mul_right b first) (subst (λ n. n ≤ most * most_b) (mul_comm b most) (subst (λ n. b * most ≤ n) (mul_comm most_b most) (mul-le-mul_right most second)))
-
--- room for one of those that are still to come, where there is room for all
-pub next_fits : (active : Bool) (old first : FiltersValue) (row : ScrubRow) (own left more : List ScrubRow)
-    → with_rows old (old.scrubs ++ map (row_set active) left) old.acls ≡ with_rows first (first.scrubs ++ map (row_set active) own) first.acls → left ≡ row ∷ more
-    → length first.scrubs + length own ≤ first.scrub_room → length old.scrubs < old.scrub_room
-next_fits active old first row own left more same is room =
-    let all : length (old.scrubs ++ map (row_set active) left) ≡ length (first.scrubs ++ map (row_set active) own) = ap (λ (f : FiltersValue). length f.scrubs) same in
-    let place : old.scrub_room ≡ first.scrub_room = ap (λ (f : FiltersValue). f.scrub_room) same in
-    let here = length-append old.scrubs (map (row_set active) left) in
-    let there = length-append first.scrubs (map (row_set active) own) in
-    let left_number = length-map left (row_set active) in
-    let own_number = length-map own (row_set active) in
-    let one : length left ≡ length (row ∷ more) = ap length is in
-    omega (arith, all, place, here, there, left_number, own_number, one, room)

@@ -1,6 +1,6 @@
 //! The rows with their places.
 
-ghost use Rattle.std.specs.Prelude.{◌≡◌, ◌*◌, ◌≤◌, ◌<◌, ◌^◌, ◌++◌, ◌∷◌, ℕ, [], map, length, IfOk};
+ghost use Rattle.std.specs.Prelude.{◌≡◌, ◌+◌, ◌*◌, ◌≤◌, ◌<◌, ◌^◌, ◌++◌, ◌∷◌, ℕ, [], map, length, IfOk};
 ghost use Rattle.dots_settings.specs.Settings.{SettingsValue};
 ghost use Rattle.installed_filters.specs.Filters.{FiltersValue, with_rows, scrubs_without_one, acls_without, activated_row, filters_of};
 ghost use Rattle.filter_table.specs.TableRows.{row_woken};
@@ -58,15 +58,15 @@ impl InstalledFilters {
         &self.table
     }
 
-    /// Puts a row of a mitigation behind the others.
-    #[tactic(auto, using(crate::proofs::Places::installed_rows, crate::proofs::Places::installed_placed, crate::proofs::Places::room_left))]
-    pub(crate) fn install(&mut self, row: ScrubRow)
-        requires { length self.old.scrubs < self.old.scrub_room }
-        ensures { self.new ≡ with_rows self.old (self.old.scrubs ++ row ∷ []) self.old.acls }
+    /// Puts rows of a mitigation behind the others.
+    pub(crate) fn install_rows(&mut self, own: Vec<ScrubRow>)
+        requires { length self.old.scrubs + length own.items ≤ self.old.scrub_room }
+        ensures { self.new ≡ with_rows self.old (self.old.scrubs ++ own.items) self.old.acls }
     {
         let place = fresh_place(&mut self.table, self.next);
-        self.table.install(place, row);
-        self.next = place + 1;
+        let number = own.len() as u64;
+        self.table.install_all(place, own);
+        self.next = place + number;
     }
 
     /// Takes each row of this mitigation out.

@@ -120,11 +120,31 @@ impl InstalledFilters {
         requires { length self.old.scrubs + length own.items ≤ self.old.scrub_room }
         ensures { self.new ≡ with_rows self.old (self.old.scrubs ++ map (row_set active) own.items) self.old.acls }
     {
-        for mut row in own {
-            row.active = active;
-            self.install(row);
-        }
+        let mut rows = own;
+        set_active(&mut rows, active);
+        self.install_rows(rows);
     }
+}
+
+/// Says of each of these rows whether it is active.
+fn set_active(rows: &mut Vec<ScrubRow>, active: bool)
+    ensures { rows.new.items ≡ map (row_set active) rows.old.items }
+{
+    set_each(rows.as_mut_slice(), active);
+}
+
+fn set_each(rows: &mut [ScrubRow], active: bool)
+    ensures { rows.new ≡ map (row_set active) rows.old }
+{
+    for row in rows.iter_mut() {
+        set_one(row, active);
+    }
+}
+
+fn set_one(row: &mut ScrubRow, active: bool)
+    ensures { row.new ≡ row_set active row.old }
+{
+    row.active = active;
 }
 
 /// Whether a client of this name has one that is live at this time and filters.

@@ -1,17 +1,13 @@
-use Rattle.std.specs.Vec.Iter.{into_iter_items}
-use Rattle.installed_filters.proofs.Places.{next_fits}
+use Rattle.std.proofs.Common.{arith, ◌≡◌, ◌++◌, List, length, map, ap, ◌∙◌}
+use Rattle.std.proofs.lemmas.List.{length-map}
+use Rattle.filter_table.specs.TableRows.{row_set}
+use Rattle.filter_rows.specs.declared.rows.ScrubRow.{ScrubRow}
+use Rattle.installed_filters.specs.Filters.{with_rows}
 use Rattle.installed_filters.proofs.filters.InstalledFilters.install_all.Goals as goal
 
-pub install-requires : goal.install-requires
-install-requires c =
-    next_fits
-    c.args.active
-    c.loop-row.self
-    c.args.self.now
-    c.in-Some.row
-    c.args.own.items
-    (into_iter_items c.loop-row.row-iterator)
-    _
-    c.loop-row.invariant
-    c.in-Some.ensures.steps.0
-    c.requires
+pub install_rows-requires : goal.install_rows-requires
+install_rows-requires c = omega (arith, ap length c.set_active.ensures, length-map c.args.own.items (row_set c.args.active), c.requires)
+
+pub returns : goal.returns
+returns c =
+    c.install_rows.ensures ∙ ap (λ (rows : List ScrubRow). with_rows c.args.self.now (c.args.self.now.scrubs ++ rows) c.args.self.now.acls) c.set_active.ensures
