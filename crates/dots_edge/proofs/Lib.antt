@@ -2,6 +2,8 @@ pub mod CallLemmas
 pub mod Walks
 pub mod PlaceLemmas
 pub mod FollowLemmas
+pub mod GoneLemmas
+pub mod CameLemmas
 pub mod SweepLemmas
 pub mod TurnLemmas
 pub mod SocketLemmas

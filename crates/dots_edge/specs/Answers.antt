@@ -1,5 +1,5 @@
 -- What a socket answered, by the log that is kept of it.
-use Rattle.std.specs.Prelude.{◌≡◌, ℕ, Bool, true, false, List, [], ◌∷◌}
+use Rattle.std.specs.Prelude.{◌≡◌, ◌⊎◌, ℕ, Bool, true, false, List, [], ◌∷◌}
 use Rattle.dots_edge.specs.declared.answer.Answer.{Answer}
 use Rattle.dots_edge.specs.declared.answer.Answer.TheVariants as answer
 
@@ -24,3 +24,7 @@ has_failed _ = false
 abbrev pub IsLast : Answer → List Answer → Type 0
 IsLast answer [] = ⊥
 IsLast answer (last ∷ answers) = last ≡ answer
+
+-- at the last read of a connection it was at its end, or it failed
+abbrev pub HasEnded : List Answer → Type 0
+HasEnded answers = IsLast (answer.Went 0) answers ⊎ IsLast answer.Failed answers

@@ -1,8 +1,9 @@
 -- What a part of the host hands in.
-use Rattle.std.specs.Prelude.{◌≡◌, ℕ, ◌≤◌, ◌<◌, ◌⊎◌, false, List, ◌∷◌, ◌++◌, take, Some, unwrap_or, ⊤}
+use Rattle.std.specs.Prelude.{◌≡◌, ℕ, ◌≤◌, ◌<◌, ◌⊎◌, false, List, ◌∷◌, ◌++◌, length, take, Some, unwrap_or, ⊤}
 use Rattle.std.specs.declared.time.Duration.{Duration}
 use Rattle.dots_edge.specs.declared.connection.Connection.{Connection}
 use Rattle.dots_edge.specs.declared.answer.Answer.TheVariants as answer
+use Rattle.dots_edge.specs.declared.socket_log.SocketLog.{SocketLog}
 use Rattle.dots_edge.specs.declared.connection.Piece.{Piece}
 use Rattle.dots_edge.specs.declared.connection.Piece.TheVariants as piece
 use Rattle.dots_edge.specs.declared.signal.Received.{Received}
@@ -32,6 +33,15 @@ AfterRead piece.Ended now old new = ⊤
 abbrev pub OnBytes : Piece → Type 0 → Type 0
 OnBytes (piece.Bytes count) P = P
 OnBytes _ P = ⊤
+
+-- where no bytes came, this holds
+abbrev pub OnNoBytes : Piece → Type 0 → Type 0
+OnNoBytes (piece.Bytes count) P = ⊤
+OnNoBytes _ P = P
+
+-- no byte came since, though the socket may have been asked
+abbrev pub SameCame : SocketLog → SocketLog → Type 0
+SameCame old new = (new.bytes ≡ old.bytes) × (length old.answers ≤ length new.answers)
 
 -- where bytes came, this holds of how many they are
 abbrev pub IfBytes : Piece → (ℕ → Type 0) → Type 0

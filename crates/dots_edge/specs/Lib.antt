@@ -9,6 +9,7 @@ pub mod Datagrams
 pub mod Accepts
 pub mod Idle
 pub mod Places
+pub mod Gone
 pub mod Address
 pub mod Peers
 pub mod Ways
@@ -17,6 +18,7 @@ pub mod Drained
 pub mod Handed
 pub mod Opened
 pub mod Told
+pub mod Came
 pub mod JournalFile
 pub mod Restarts
 pub mod Edge

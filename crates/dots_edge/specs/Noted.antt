@@ -18,9 +18,9 @@ accepting_again accepting.No = accepting.No
 abbrev pub retried : Waiting → Waiting
 retried waiting = record waiting { connections = accepting_again waiting.connections }
 
--- whether it is told under the number of the place
-abbrev pub is_told_of : ℕ → Event → Bool
-is_told_of place event = (event_token event).0 == place
+-- whether it is about the connection at the place
+abbrev pub is_about : ℕ → Event → Bool
+is_about place event = (event_token event).0 == place
 
 -- whether it is about a socket for datagrams, of which there are four behind the 128 places
 abbrev pub is_signal : Event → Bool
@@ -38,4 +38,4 @@ pub record IsNoted (events : List Event) (old new : Waiting) : Type 0 where
 -- at each connection of which it told something may have come, or its socket may take more
 abbrev pub AreMarked : List Event → Connections → Connections → Type 0
 AreMarked events old new = (place : ℕ) → place < 128 →
-    at_place new place ≡ (if list_any (is_told_of place) events then marked (at_place old place) else at_place old place)
+    at_place new place ≡ (if list_any (is_about place) events then marked (at_place old place) else at_place old place)

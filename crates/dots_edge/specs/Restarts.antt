@@ -10,6 +10,11 @@ abbrev pub OnRestart : What → Type 0 → Type 0
 OnRestart what.Restart P = P
 OnRestart _ P = ⊤
 
+-- where the end came, this holds
+abbrev pub OnEnd : What → Type 0 → Type 0
+OnEnd what.End P = P
+OnEnd _ P = ⊤
+
 abbrev pub IsNoRestart : WireAct → Type 0
 IsNoRestart (took event.Restart at) = ⊥
 IsNoRestart _ = ⊤

@@ -22,7 +22,8 @@ pub enum Answer {
 impl Answer {
     /// What a call answered that failed so.
     pub fn of(kind: ErrorKind) -> Answer
-        ensures { went result ≡ 0 }
+        ensures went { went result ≡ 0 }
+        ensures none { result ≡ Answer.Went 0 → ⊥ }
     {
         match kind {
             ErrorKind::WouldBlock => Answer::Nothing,

@@ -1,6 +1,6 @@
 //! The calls of a connection's socket, each of which is taken down in its log.
 
-ghost use Rattle.std.specs.Prelude.{◌≡◌, ◌<◌, ◌≤◌, ◌∷◌, ◌++◌, length, take};
+ghost use Rattle.std.specs.Prelude.{◌≡◌, ◌<◌, ◌≤◌, [], ◌∷◌, ◌++◌, length, take};
 ghost use Rattle.dots_edge.specs.Answers.{went};
 
 use crate::answer::Answer;
@@ -24,6 +24,7 @@ pub fn read_once(stream: &mut TcpStream, came: &mut SocketLog, into: &mut [u8]) 
 /// How many of the bytes the socket takes at one write. It takes one at least, where it takes some and there are any.
 pub fn write_once(stream: &mut TcpStream, taken: &mut SocketLog, bytes: &[u8]) -> Answer
     ensures count { went result ≤ length bytes.now }
+    ensures some { result ≡ Answer.Went 0 → bytes.now ≡ [] }
     ensures answers { taken.new.answers ≡ result ∷ taken.old.answers }
     ensures bytes { taken.new.bytes ≡ taken.old.bytes ++ take (went result) bytes.now }
     ensures same { stream.new ≡ stream.old }

@@ -1,12 +1,14 @@
 ghost use Rattle.std.specs.Prelude.{◌≡◌, ◌==◌, ◌<◌, ◌≤◌, ◌+◌, ◌∷◌, ◌++◌, ◌⊎◌, [], length, drop, true, false, not, None, Some, unwrap_or, if◌then◌else◌, is_ok, OnOk};
-ghost use Rattle.dots_edge.specs.Answers.{went};
-ghost use Rattle.dots_edge.specs.Events.{IsPiece, AfterRead, OnBytes, HasRead};
+ghost use Rattle.dots_edge.specs.Answers.{went, HasEnded};
+ghost use Rattle.dots_edge.specs.Events.{IsPiece, AfterRead, OnBytes, OnNoBytes, SameCame, HasRead};
 ghost use Rattle.dots_edge.specs.Sends.{TookOn, TookOrKept, TookAll, IsLost, HasWrittenOn, HasTried};
 ghost use Rattle.dots_edge.specs.Idle.{is_kept, is_idle, is_sound, calls_of};
 ghost use Rattle.dots_edge.specs.Passing.{is_stale};
+ghost use Rattle.dots_edge.specs.Gone.{gone_of};
 
 use crate::answer::Answer;
 use crate::calls::{read_once, write_once};
+use crate::gone::Gone;
 use crate::passing::have_passed;
 use crate::rest::Rest;
 use crate::socket_log::SocketLog;
@@ -54,7 +56,7 @@ pub struct Connection {
     /// Whether the socket may take some of the rest.
     takes: bool,
     /// Whether waits tell when the socket takes more, too.
-    told: bool,
+    watches_writes: bool,
     /// When the last byte came or went, or a send was kept.
     moved: Duration,
     /// When the first byte came that no send has answered.
@@ -79,7 +81,7 @@ impl Connection {
           token = token;
           ready = true;
           takes = false;
-          told = false;
+          watches_writes = false;
           moved = now;
           asked = None;
           broken = false;
@@ -98,7 +100,7 @@ impl Connection {
             token,
             ready: true,
             takes: false,
-            told: false,
+            watches_writes: false,
             moved: now,
             asked: None,
             broken: false,
@@ -141,6 +143,9 @@ impl Connection {
         ensures read { self.old.broken ≡ false → self.old.closing ≡ false → self.old.rest.bytes.items ≡ [] → self.old.ready ≡ true →
             HasRead result into.new self.old self.new }
         ensures bytes { OnBytes result (HasRead result into.new self.old self.new) }
+        // Else no byte comes from it. It ends for the server where it broke, or where its socket is at its end or failed.
+        ensures same { OnNoBytes result (SameCame self.old.came self.new.came) }
+        ensures over { result ≡ Piece.Ended → self.old.closing ≡ false → (self.new.broken ≡ true) ⊎ HasEnded self.new.came.answers }
         ensures tried { self.old.broken ≡ false → 0 < length self.old.rest.bytes.items → self.old.takes ≡ true →
             HasTried result self.old self.new }
         ensures called { result ≡ Piece.Again → calls_of self.new ≡ calls_of self.old + 1 }
@@ -212,6 +217,7 @@ impl Connection {
         ensures nothing { result ≡ Piece.Nothing → (self.new.takes ≡ false) × (self.new.rest.bytes.items ≡ self.old.rest.bytes.items) }
         ensures tried { self.old.takes ≡ true → HasTried result self.old self.new }
         ensures called { result ≡ Piece.Again → calls_of self.new ≡ calls_of self.old + 1 }
+        ensures came { self.new.came ≡ self.old.came }
         ensures sound { is_sound self.old ≡ true → is_sound self.new ≡ true }
     {
         if !self.takes {
@@ -250,7 +256,7 @@ impl Connection {
     fn pass(&mut self, count: usize, now: Duration, registry: &Registry) -> Piece
         requires { self.old.broken ≡ false }
         ensures piece { IsPiece result 0 }
-        ensures went { (self.new ≡ record self.old { moved = if count == 0 then self.old.moved else now; told = self.new.told })
+        ensures went { (self.new ≡ record self.old { moved = if count == 0 then self.old.moved else now; watches_writes = self.new.watches_writes })
             ⊎ (IsLost self.new × (result ≡ Piece.Ended)) }
         ensures closing { self.new.closing ≡ self.old.closing }
         ensures ends { result ≡ Piece.Ended → IsLost self.new ⊎ ((self.new.closing ≡ true) × (self.new.rest.bytes.items ≡ [])) }
@@ -265,7 +271,7 @@ impl Connection {
         if self.closing && self.rest.is_empty() {
             return Piece::Ended;
         }
-        if self.tell(registry).is_err() {
+        if self.watch(registry).is_err() {
             self.lose();
             return Piece::Ended;
         }
@@ -282,11 +288,11 @@ impl Connection {
         ensures left { result ≡ Sent.Lost → self.new.rest.bytes.items ≡ [] }
         ensures closing { self.new.closing ≡ self.old.closing }
         // Where nothing was kept it is lost only where the socket didn't take all of the bytes.
-        ensures cause { result ≡ Sent.Lost → self.old.broken ≡ false → self.old.rest.bytes.items ≡ [] → self.old.told ≡ false →
+        ensures cause { result ≡ Sent.Lost → self.old.broken ≡ false → self.old.rest.bytes.items ≡ [] → self.old.watches_writes ≡ false →
             TookAll self.old bytes.now self.new → ⊥ }
         ensures sound { is_sound self.old ≡ true → is_sound self.new ≡ true }
     {
-        if self.broken || self.give(bytes).is_err() || self.tell(registry).is_err() {
+        if self.broken || self.give(bytes).is_err() || self.watch(registry).is_err() {
             self.lose();
             return Sent::Lost;
         }
@@ -318,13 +324,13 @@ impl Connection {
     }
 
     /// Has waits tell when the socket takes more, too, while there is a rest.
-    fn tell(&mut self, registry: &Registry) -> io::Result<()>
-        ensures kept { self.new ≡ record self.old { told = self.new.told } }
-        ensures told { OnOk result (self.new.told ≡ is_kept self.old) }
-        ensures same { self.old.told ≡ is_kept self.old → is_ok result ≡ true }
+    fn watch(&mut self, registry: &Registry) -> io::Result<()>
+        ensures kept { self.new ≡ record self.old { watches_writes = self.new.watches_writes } }
+        ensures watches { OnOk result (self.new.watches_writes ≡ is_kept self.old) }
+        ensures same { self.old.watches_writes ≡ is_kept self.old → is_ok result ≡ true }
     {
         let wanted = !self.rest.is_empty();
-        if wanted == self.told {
+        if wanted == self.watches_writes {
             return Ok(());
         }
         let interests = if wanted {
@@ -333,7 +339,7 @@ impl Connection {
             Interest::READABLE
         };
         registry.reregister(&mut self.stream, self.token, interests)?;
-        self.told = wanted;
+        self.watches_writes = wanted;
         Ok(())
     }
 
@@ -386,6 +392,25 @@ impl Connection {
         match self.asked {
             Some(asked) => have_passed(UNANSWERED_SECONDS, asked, now),
             None => false,
+        }
+    }
+
+    /// Lets it go, and what is known of it is left.
+    pub fn leave(self) -> Gone
+        ensures { result ≡ gone_of self }
+    {
+        let Connection {
+            came,
+            moved,
+            asked,
+            broken,
+            ..
+        } = self;
+        Gone {
+            came,
+            moved,
+            asked,
+            broken,
         }
     }
 

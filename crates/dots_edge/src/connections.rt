@@ -2,10 +2,11 @@ ghost use Rattle.std.specs.Prelude.{◌≡◌, ◌==◌, ◌<◌, ◌≤◌, ◌
 ghost use Rattle.dots_host.specs.Acts.{IsWithin, OnFailed};
 ghost use Rattle.dots_host.specs.declared.TheConstants.{MAX_EVENT_BYTES};
 ghost use Rattle.dots_edge.specs.Restarts.{OnRestart};
-ghost use Rattle.dots_edge.specs.Events.{IsPiece, OnBytes, IfBytes};
+ghost use Rattle.dots_edge.specs.Events.{IsPiece, OnBytes, OnNoBytes, IfBytes};
 ghost use Rattle.dots_edge.specs.Idle.{idle_at, calls_at, ahead, AreIdleBeyond, AreSound, WasTried};
 
 use crate::connection::{Connection, Piece};
+use crate::gone::Gone;
 use crate::place::{close_at, closing_since, first_of, mark_at, send_at, turn_at};
 use dots_host::{MAX_EVENT_BYTES, NoMemory, Sent, What};
 use mio::net::TcpStream;
@@ -27,6 +28,8 @@ pub struct Connections {
     pub looks: usize,
     /// The place from which on stale connections are closed.
     swept: usize,
+    /// What is known of the connection that went last of those that the server hadn't closed.
+    gone: Gone,
     ghost sized: { vec_len places ≡ 128 },
     // Nothing can be done at the places behind these before a wait tells of them.
     ghost idle: { AreIdleBeyond places.items turn looks },
@@ -36,6 +39,7 @@ pub struct Connections {
 
 impl Connections {
     ghost use Rattle.dots_edge.specs.Places.{at_place, is_open, closing_since, AreTaken, MovedFirst, IsForOneMore, AreOpen, NoneCloses, SameBeside, SameOpen, OthersStay, ClosesAt, Follows, marked, kept_at, stale_at, retried, swept, ends_at, AreSwept, NoneEnds, AreTried, AreIdle, AreSpent, CameAt, OnPiece, IsSentAt, closed_at};
+    ghost use Rattle.dots_edge.specs.Gone.{WentFrom, HasStopped, HasGone, HasComeOn, GoesOn, AreOn};
 
     /// Places for connections, none of which is open.
     #[tactic(auto, using(crate::proofs::PlaceLemmas::none_more))]
@@ -52,6 +56,7 @@ impl Connections {
             turn: 0,
             looks: 0,
             swept: MAX_CONNECTIONS,
+            gone: Gone::none(),
         })
     }
 
@@ -130,6 +135,7 @@ impl Connections {
         requires { place < 128 }
         ensures answer { result ≡ if is_open self.old place then Some place else None }
         ensures ended { at_place self.new place ≡ None }
+        ensures went { is_open self.old place ≡ true → WentFrom (at_place self.old place) self.new.gone }
         ensures beside { SameBeside self.old place self.new }
         ensures kept { (self.new.turn ≡ self.old.turn) × (self.new.looks ≡ self.old.looks) × (self.new.swept ≡ self.old.swept) }
     {
@@ -138,7 +144,7 @@ impl Connections {
             connection.close();
             return None;
         }
-        drop(connection);
+        self.gone = connection.leave();
         Some(place as u32)
     }
 
@@ -156,6 +162,7 @@ impl Connections {
         ensures looks { self.new.looks ≡ 128 }
         ensures open { SameOpen self.old self.new }
         ensures marked { at_place self.new place ≡ marked (at_place self.old place) }
+        ensures on { AreOn self.old self.new }
         ensures beside { SameBeside self.old place self.new }
         ensures swept { self.new.swept ≡ self.old.swept }
     {
@@ -179,6 +186,10 @@ impl Connections {
         ensures follows { Follows result self.old self.new }
         // A piece is what the socket of its connection gave.
         ensures came { OnPiece result (λ conn len. CameAt (at_place self.old conn) (take len into.new) (at_place self.new conn)) }
+        // It gives pieces and ends alone. A connection ends where it broke, or where its socket is at its end or failed. Without an event no
+        // byte came.
+        ensures whence { IfSome result (λ what. HasComeOn what into.new self.old self.new now) }
+        ensures on { result ≡ None → AreOn self.old self.new }
         // There is none only where each connection was tried of which something could be done.
         ensures none { result ≡ None → AreTried self.old self.new }
     {
@@ -205,6 +216,8 @@ impl Connections {
         ensures beside { SameBeside self.old (self.old.turn % 128) self.new }
         ensures place { OnPiece result (λ conn _. conn ≡ self.old.turn % 128) }
         ensures came { OnPiece result (λ conn len. CameAt (at_place self.old conn) (take len into.new) (at_place self.new conn)) }
+        ensures whence { IfSome result (λ what. HasComeOn what into.new self.old self.new now) }
+        ensures on { result ≡ None → AreOn self.old self.new }
         ensures none { result ≡ None →
             WasTried (at_place self.old (self.old.turn % 128)) (at_place self.new (self.old.turn % 128)) }
     {
@@ -244,6 +257,9 @@ impl Connections {
         ensures nothing { result ≡ Piece.Nothing → idle_at (at_place self.new place) ≡ true }
         ensures came_open { OnBytes result (is_open self.old place ≡ true) }
         ensures came { IfBytes result (λ count. CameAt (at_place self.old place) (take count into.new) (at_place self.new place)) }
+        ensures some { IfBytes result (λ count. 0 < count) }
+        ensures same { OnNoBytes result (GoesOn (at_place self.old place) (at_place self.new place)) }
+        ensures over { result ≡ Piece.Ended → is_open self.old place ≡ true → HasStopped (at_place self.new place) }
         ensures called { result ≡ Piece.Again → calls_at (at_place self.old place) < calls_at (at_place self.new place) }
     {
         match self.places.get_mut(place) {
@@ -268,6 +284,7 @@ impl Connections {
         requires idle { idle_at (at_place self.old place) ≡ true }
         ensures turn { self.new.turn ≡ place + 1 }
         ensures places { self.new.places ≡ self.old.places }
+        ensures gone { self.new.gone ≡ self.old.gone }
     {
         self.turn = place + 1;
         self.looks = self.looks.saturating_sub(1);
@@ -279,6 +296,7 @@ impl Connections {
         ensures answer { result ≡ if is_open self.old place then Some (What.Closed place) else None }
         ensures turn { self.new.turn ≡ place + 1 }
         ensures ended { at_place self.new place ≡ None }
+        ensures went { is_open self.old place ≡ true → WentFrom (at_place self.old place) self.new.gone }
         ensures beside { SameBeside self.old place self.new }
     {
         let ended = self.end(place);
@@ -306,6 +324,9 @@ impl Connections {
         ensures swept { AreSwept self.old now self.old.swept self.new.swept self.new }
         ensures last { IfSome result (λ conn. (self.new.swept ≡ conn + 1) × (stale_at now (at_place self.old conn) ≡ true)) }
         ensures first { IfSome result (λ conn. NoneEnds self.old now self.old.swept conn) }
+        // The one that it answers is over, and otherwise no byte came.
+        ensures gone { IfSome result (λ conn. HasGone (at_place self.old conn) self.new.gone now) }
+        ensures on { result ≡ None → AreOn self.old self.new }
         ensures all { result ≡ None → (128 ≤ self.new.swept) × NoneEnds self.old now self.old.swept 128 }
     {
         for _ in 0..MAX_CONNECTIONS {
@@ -324,6 +345,7 @@ impl Connections {
         requires { self.old.swept < 128 }
         ensures answer { result ≡ if ends_at now (at_place self.old self.old.swept) then Some self.old.swept else None }
         ensures swept { at_place self.new self.old.swept ≡ swept now (at_place self.old self.old.swept) }
+        ensures went { IfSome result (λ _. WentFrom (at_place self.old self.old.swept) self.new.gone) }
         ensures beside { SameBeside self.old self.old.swept self.new }
         ensures next { self.new.swept ≡ self.old.swept + 1 }
     {

@@ -1,6 +1,6 @@
 //! What comes to the sockets, in turn.
 
-ghost use Rattle.std.specs.Prelude.{◌≡◌, ◌+◌, ◌≤◌, ◌⊎◌, length, take, false, true, None, Some, IfOk, OnOk, OnErr, IfSome};
+ghost use Rattle.std.specs.Prelude.{◌≡◌, ◌+◌, ◌≤◌, ◌⊎◌, ℕ, List, length, take, false, true, None, Some, IfOk, OnOk, OnErr, IfSome};
 ghost use Rattle.dots_host.specs.Acts.{IsWithin, OnFailed};
 ghost use Rattle.dots_host.specs.declared.TheConstants.{MAX_EVENT_BYTES};
 ghost use Rattle.mio.specs.Events.{items};
@@ -61,6 +61,7 @@ pub struct Ends {
 impl Ends {
     ghost use Rattle.dots_edge.specs.Drained.{IsDrained, HasBroken, HasTired};
     ghost use Rattle.dots_edge.specs.Handed.{IsHanded};
+    ghost use Rattle.dots_edge.specs.Came.{HasCome, Passed};
 
     pub fn new(sockets: Sockets, rooms: Rooms) -> Ends
         ensures { result.connections ≡ rooms.connections }
@@ -102,6 +103,8 @@ impl Ends {
         // A number is opened that wasn't open for the server, one that was is closed, and none else begins or ends to be.
         ensures follows { IfOk result (λ what. Follows (Some what) self.old.connections self.new.connections) }
         ensures err { OnErr result (SameOpen self.old.connections self.new.connections) }
+        // An event is what a socket gave since, with its very bytes, or what the clock says.
+        ensures came { IfOk result (λ what. HasCome what into.new self.old self.new) }
         // It fails only where a call of the system failed.
         ensures broken { OnErr result (HasBroken self.new ⊎ HasTired self.old self.new) }
     {
@@ -121,7 +124,9 @@ impl Ends {
     fn read_clock<R: Clock>(&mut self, rt: &R) -> io::Result<Duration>
         ensures read { length self.new.clock.answers ≡ length self.old.clock.answers + 1 }
         ensures failed { OnErr result (has_failed self.new.clock.answers ≡ true) }
+        ensures went { IfOk result (λ _. has_failed self.new.clock.answers ≡ false) }
         ensures connections { self.new.connections ≡ self.old.connections }
+        ensures kept { (self.new.sockets ≡ self.old.sockets) × (self.new.ticks ≡ self.old.ticks) }
     {
         match rt.monotonic() {
             Ok(time) => {
@@ -143,8 +148,11 @@ impl Ends {
         ensures restart { IfOk result (λ found. IfSome found (λ what. OnRestart what ⊥)) }
         ensures follows { IfOk result (λ found. Follows found self.old.connections self.new.connections) }
         ensures err { OnErr result (SameOpen self.old.connections self.new.connections) }
+        ensures came { IfOk result (λ found. IfSome found (λ what. HasCome what into.new self.old self.new)) }
+        ensures passed { IfOk result (λ found. found ≡ None → Passed self.old self.new) }
         ensures broken { OnErr result (HasBroken self.new) }
         ensures clock { self.new.clock ≡ self.old.clock }
+        ensures time { self.new.time ≡ self.old.time }
     {
         if self.ticks.is_due(self.time) {
             self.tick();
@@ -173,8 +181,11 @@ impl Ends {
         ensures err { OnErr result (SameOpen self.old.connections self.new.connections) }
         ensures waited { 64 ≤ self.old.since_look →
             length self.new.sockets.waits.answers ≡ length self.old.sockets.waits.answers + 1 }
+        ensures came { IfOk result (λ found. IfSome found (λ what. HasCome what into.new self.old self.new)) }
+        ensures passed { IfOk result (λ found. found ≡ None → Passed self.old self.new) }
         ensures broken { OnErr result (HasBroken self.new) }
         ensures clock { self.new.clock ≡ self.old.clock }
+        ensures kept { (self.new.ticks ≡ self.old.ticks) × (self.new.time ≡ self.old.time) }
     {
         if self.since_look < EVENTS_BEFORE_A_LOOK {
             return Ok(None);
@@ -222,6 +233,7 @@ impl Ends {
         ensures open { SameOpen self.old.connections self.new.connections }
         ensures waited { length self.new.sockets.waits.answers ≡ length self.old.sockets.waits.answers + 1 }
         ensures broken { OnErr result (HasBroken self.new) }
+        ensures passed { OnOk result (Passed self.old self.new) }
         ensures clock { self.new.clock ≡ self.old.clock }
     {
         let left = self.ticks.left(self.time);
@@ -237,7 +249,9 @@ impl Ends {
         ensures marked { OnOk result (AreMarked (items self.new.events) self.old.connections self.new.connections) }
         ensures looked { OnOk result (self.new.since_look ≡ 0) }
         ensures broken { OnErr result (HasBroken self.new) }
+        ensures passed { OnOk result (Passed self.old self.new) }
         ensures clock { self.new.clock ≡ self.old.clock }
+        ensures kept { (self.new.ticks ≡ self.old.ticks) × (self.new.time ≡ self.old.time) }
     {
         self.sockets.wait(&mut self.events, limit)?;
         self.since_look = 0;
@@ -260,7 +274,10 @@ impl Ends {
         ensures empty { IfOk result (λ found. found ≡ None →
             (self.new.waiting.datagrams ≡ false) ⊎ (times_asked self.old.sockets + 64 ≤ times_asked self.new.sockets)) }
         ensures broken { OnErr result (HasBroken self.new) }
+        ensures whence { IfOk result (λ found. IfSome found (λ what. HasCome what into.new self.old self.new)) }
+        ensures passed { IfOk result (λ found. found ≡ None → Passed self.old self.new) }
         ensures clock { self.new.clock ≡ self.old.clock }
+        ensures kept { (self.new.ticks ≡ self.old.ticks) × (self.new.time ≡ self.old.time) }
     {
         if !self.waiting.datagrams {
             return Ok(None);
@@ -292,7 +309,10 @@ impl Ends {
         ensures follows { Follows result self.old.connections self.new.connections }
         ensures none { result ≡ None → AreTried self.old.connections self.new.connections }
         ensures waits { self.new.sockets.waits ≡ self.old.sockets.waits }
+        ensures came { IfSome result (λ what. HasCome what into.new self.old self.new) }
+        ensures passed { result ≡ None → Passed self.old self.new }
         ensures clock { self.new.clock ≡ self.old.clock }
+        ensures kept { (self.new.ticks ≡ self.old.ticks) × (self.new.time ≡ self.old.time) }
     {
         self.opens_first = !self.opens_first;
         if self.opens_first {
@@ -318,7 +338,10 @@ impl Ends {
             CameAt (at_place self.old.connections conn) (take len into.new) (at_place self.new.connections conn)) }
         ensures none { result ≡ None → AreTried self.old.connections self.new.connections }
         ensures sockets { self.new.sockets ≡ self.old.sockets }
+        ensures whence { IfSome result (λ what. HasCome what into.new self.old self.new) }
+        ensures passed { result ≡ None → Passed self.old self.new }
         ensures clock { self.new.clock ≡ self.old.clock }
+        ensures kept { (self.new.ticks ≡ self.old.ticks) × (self.new.time ≡ self.old.time) }
     {
         self.connections
             .next_piece(into, self.time, self.sockets.registry())
@@ -339,6 +362,9 @@ impl Ends {
         ensures event { IfSome result (λ what. OnFailed what ⊥) }
         ensures restart { IfSome result (λ what. OnRestart what ⊥) }
         ensures follows { Follows result self.old.connections self.new.connections }
+        ensures came { (room : List ℕ) → IfSome result (λ what. HasCome what room self.old self.new) }
+        ensures passed { result ≡ None → Passed self.old self.new }
+        ensures kept { (self.new.ticks ≡ self.old.ticks) × (self.new.time ≡ self.old.time) }
     {
         if !self.may_accept() {
             return None;

@@ -3,7 +3,8 @@ ghost use Rattle.dots_host.specs.Causes.{Rose, HasCause};
 ghost use Rattle.dots_host.specs.declared.act.Act.TheVariants as act;
 ghost use Rattle.dots_host.specs.Acts.{IsWithin, OnFailed, OnEvent, Adds, event_of, owned_of, is_done, taken, given, wire_acts};
 ghost use Rattle.dots_host.specs.declared.TheConstants.{MAX_EVENT_BYTES};
-ghost use Rattle.dots_edge.specs.Restarts.{OnRestart};
+ghost use Rattle.dots_edge.specs.Restarts.{OnRestart, OnEnd};
+ghost use Rattle.dots_edge.specs.Came.{HasComeOf};
 ghost use Rattle.dots_edge.specs.Opened.{FollowsCalls, IsGivenAfter};
 ghost use Rattle.dots_edge.specs.Told.{AreFresh, FollowsOf, IsGivenOf};
 ghost use Rattle.dots_edge.specs.Edge.{acts_told, with_call, one_fewer, NeverRestarts, KeepsWire, KeepsDisk, IsAsSaid};
@@ -274,6 +275,8 @@ fn next_event<R: Clock>(
     ensures counted { IfSome result (λ _. left.new ≡ one_fewer left.old) }
     ensures failed { result ≡ None → left.new ≡ left.old }
     ensures follows { FollowsOf result ends.old ends.new }
+    // An event is what a socket gave since, with its very bytes, or what the clock says, and the end comes only where none is left.
+    ensures came { IfSome result (λ what. HasComeOf what into.new left.old ends.old ends.new) }
 {
     let Some(ends) = ends else {
         return None;
@@ -437,6 +440,7 @@ impl<R: Files<File = File> + Net + Clock + Drop> Wire for FileSocketHost<R> {
         // A host that isn't open fails, and one to which no event is to come any more ends.
         ensures shut { self.old.opened ≡ false → result.what ≡ What.Failed }
         ensures ends { self.old.opened ≡ true → self.old.left ≡ Some 0 → result.what ≡ What.End }
+        ensures end { OnEnd result.what (self.old.left ≡ Some 0) }
         // Where events are counted, each that is handed in is one fewer to come.
         ensures counted { OnEvent result.what (self.new.left ≡ one_fewer self.old.left) }
         ensures kept { OnFailed result.what (self.new.left ≡ self.old.left) }

@@ -5,8 +5,8 @@
 //!
 //! What a socket, a file or a clock does no contract can say. So of the host it is proved that it is safe, that it fails only where it
 //! counts a fault, and what depends on the host file and on the calls alone: whose an address is, when a tick is due, when the end
-//! comes, that times don't fall, and that no datagram or piece is longer than its room. Which event comes when is for the tests
-//! (`worked_rows`).
+//! comes, that times don't fall, and that no datagram or piece is longer than its room. An event is what a socket gave since, with its very
+//! bytes, or a tick that is due (`specs/Came`). Which event comes when is for the tests (`worked_rows`).
 //!
 //! The sockets don't block. Readiness is told once, when it begins: a source that was told of has to be found empty before a wait tells
 //! of it again. So the host waits only where each source was found empty, and else goes on: a tick that is due, the end of a stale
@@ -29,6 +29,7 @@ mod connection;
 mod connections;
 mod ends;
 mod file_socket_host;
+mod gone;
 mod journal;
 mod journal_file;
 mod journal_reader;

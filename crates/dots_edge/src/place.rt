@@ -1,7 +1,8 @@
 //! What stands at a place for a connection.
 
 ghost use Rattle.std.specs.Prelude.{◌≡◌, ◌<◌, true, false, length, take, None};
-ghost use Rattle.dots_edge.specs.Events.{IsPiece, OnBytes, IfBytes};
+ghost use Rattle.dots_edge.specs.Gone.{GoesOn, HasStopped};
+ghost use Rattle.dots_edge.specs.Events.{IsPiece, OnBytes, OnNoBytes, IfBytes};
 ghost use Rattle.dots_edge.specs.Idle.{idle_at, sound_at, calls_at};
 ghost use Rattle.dots_edge.specs.Places.{is_opened, marked, closed_at, closing_since, first_of, CameAt, IsSentAt};
 
@@ -36,6 +37,10 @@ pub fn turn_at(
     // Bytes came on a connection that is open for the server, and are those that its socket gave.
     ensures open { OnBytes result (is_opened place.old ≡ true) }
     ensures came { IfBytes result (λ count. CameAt place.old (take count into.new) place.new) }
+    ensures some { IfBytes result (λ count. 0 < count) }
+    // Else none came on it. It ends where it broke, or where its socket is at its end or failed.
+    ensures same { OnNoBytes result (GoesOn place.old place.new) }
+    ensures over { result ≡ Piece.Ended → is_opened place.old ≡ true → HasStopped place.new }
     ensures called { result ≡ Piece.Again → calls_at place.old < calls_at place.new }
     ensures sound { sound_at place.old ≡ true → sound_at place.new ≡ true }
 {

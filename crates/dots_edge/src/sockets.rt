@@ -1,6 +1,6 @@
 //! The sockets of a host file, and the wait for them and the connections.
 
-ghost use Rattle.std.specs.Prelude.{◌≡◌, ◌+◌, ◌<◌, ◌≤◌, ◌==◌, true, if◌then◌else◌, length, position, vec_len, IfOk, OnErr, nat_lt};
+ghost use Rattle.std.specs.Prelude.{◌≡◌, ◌+◌, ◌<◌, ◌≤◌, ◌==◌, true, false, if◌then◌else◌, length, position, vec_len, IfOk, OnOk, OnErr, nat_lt};
 ghost use Rattle.dots_edge.specs.Turns.{whose_turn};
 ghost use Rattle.dots_edge.specs.Events.{IsReceived};
 ghost use Rattle.dots_edge.specs.Answers.{has_failed};
@@ -157,6 +157,7 @@ impl Sockets {
         // The system is asked once, and the sockets stay as they are.
         ensures waited { length self.new.waits.answers ≡ length self.old.waits.answers + 1 }
         ensures failed { OnErr result (has_failed self.new.waits.answers ≡ true) }
+        ensures went { OnOk result (has_failed self.new.waits.answers ≡ false) }
         ensures kept { self.new ≡ record self.old { poll = self.new.poll; waits = self.new.waits } }
     {
         match self.poll.poll(events, Some(limit)) {
@@ -177,6 +178,7 @@ impl Sockets {
         ensures ok { IfOk result (λ received. HasAsked received room.new self.old self.new) }
         ensures err { OnErr result (HasFailed self.old self.new) }
         ensures asked { IfOk result (λ received. IsSomething received (times_asked self.old < times_asked self.new)) }
+        ensures later { times_asked self.old ≤ times_asked self.new }
         ensures kept { self.new ≡ record self.old { signals = self.new.signals; signal_turn = self.new.signal_turn } }
         ensures count { vec_len self.new.signals ≡ vec_len self.old.signals }
     {
@@ -236,6 +238,7 @@ impl Sockets {
     pub fn accept(&mut self, place: usize) -> Accepted
         ensures accepted { HasAccepted result self.old self.new }
         ensures tried { IsAny result (times_tried self.old < times_tried self.new) }
+        ensures later { times_tried self.old ≤ times_tried self.new }
         ensures kept { self.new ≡ record self.old { listeners = self.new.listeners; listener_turn = self.new.listener_turn } }
         ensures count { vec_len self.new.listeners ≡ vec_len self.old.listeners }
     {

@@ -4,6 +4,7 @@ ghost use Rattle.std.specs.Prelude.{◌≡◌};
 ghost use Rattle.mio.specs.Events.{items};
 ghost use Rattle.dots_edge.specs.Noted.{retried, IsNoted, AreMarked};
 ghost use Rattle.dots_edge.specs.Places.{SameOpen};
+ghost use Rattle.dots_edge.specs.Gone.{AreOn};
 
 use crate::connections::Connections;
 use crate::sockets::{HTTP, SIGNAL};
@@ -42,6 +43,7 @@ pub fn note(events: &Events, waiting: &mut Waiting, connections: &mut Connection
     // What may wait is what it told, beside what might before.
     ensures waiting { IsNoted (items events.now) waiting.old waiting.new }
     ensures marked { AreMarked (items events.now) connections.old connections.new }
+    ensures on { AreOn connections.old connections.new }
 {
     for event in events {
         let place = event.token().0;

@@ -6,6 +6,9 @@ abbrev pub invariant-loop : goal.invariant-loop
 invariant-loop l = record {
   connections : l.self.connections ≡ l.initial.self.connections;
   clock : l.self.clock ≡ l.initial.self.clock;
+  ticks : l.self.ticks ≡ l.initial.self.ticks;
+  time : l.self.time ≡ l.initial.self.time;
+  listeners : l.self.sockets.listeners ≡ l.initial.self.sockets.listeners;
   waits : l.self.waiting.datagrams ≡ true;
   asked : times_asked l.initial.self.sockets + l.counter ≤ times_asked l.self.sockets;
 }

@@ -7,7 +7,10 @@ abbrev pub invariant-loop : goal.invariant-loop
 invariant-loop l = record {
   connections : l.self.connections ≡ l.initial.self.connections;
   clock : l.self.clock ≡ l.initial.self.clock;
-  told : l.self.sockets.waits ≡ l.initial.self.sockets.waits;
+  waited : l.self.sockets.waits ≡ l.initial.self.sockets.waits;
+  ticks : l.self.ticks ≡ l.initial.self.ticks;
+  time : l.self.time ≡ l.initial.self.time;
+  signals : l.self.sockets.signals ≡ l.initial.self.sockets.signals;
   waits : l.self.waiting.connections ≡ accepting.Yes;
   tried : times_tried l.initial.self.sockets + l.counter ≤ times_tried l.self.sockets;
 }

@@ -49,6 +49,7 @@ returns-in_default c =
       range = search rules;
       ok = asked_by found c.receive_at.new.room old new c.in_default.not-Nothing (subst (λ place. HasReceivedAt found place c.receive_at.new.room old new) (asked_last new at turned) has);
       err = tt;
+      later = omega (arith, inv.asked, c.receive_at.ensures.asked);
       asked = something found (times_asked old < times_asked new) (omega (arith, inv.asked, c.receive_at.ensures.asked));
       kept = search rules;
       count = c.receive_at.ensures.count ∙ inv.many;
