@@ -1,5 +1,5 @@
 -- What comes to the sockets, over several steps.
-use Rattle.std.proofs.Common.{◌≡◌, ℕ, Bool, true, false, if◌then◌else◌, List, Option, Some, None, IfSome, refl, ap, subst, arith}
+use Rattle.std.proofs.Common.{◌≡◌, ℕ, Bool, true, false, if◌then◌else◌, List, Option, Some, None, IfSome, ap, subst, arith}
 use Rattle.std.specs.declared.time.Duration.{Duration}
 use Rattle.dots_host.specs.declared.event.What.{What}
 use Rattle.dots_host.specs.declared.event.What.TheVariants as what
@@ -9,13 +9,8 @@ use Rattle.dots_edge.specs.Places.{Follows}
 use Rattle.dots_edge.specs.Gone.{HasComeOn, AreOn}
 use Rattle.dots_edge.specs.Datagrams.{times_asked}
 use Rattle.dots_edge.specs.Accepts.{times_tried}
-use Rattle.dots_edge.specs.Restarts.{OnEnd}
-use Rattle.dots_edge.specs.Came.{HasCome, HasComeOf, Passed}
-use Rattle.dots_edge.proofs.GoneLemmas.{on_same, on_then, come_on}
-
-ticks_same : (since : Option Duration) → IfSome since (λ last. since ≡ Some last)
-ticks_same None = tt
-ticks_same (Some last) = refl
+use Rattle.dots_edge.specs.Came.{HasCome, Passed}
+use Rattle.dots_edge.proofs.GoneLemmas.{on_then, come_on}
 
 ticks_then : (old between new : Option Duration) → IfSome old (λ last. between ≡ Some last) → IfSome between (λ last. new ≡ Some last) → IfSome old (λ last. new ≡ Some last)
 ticks_then None between new a b = tt
@@ -24,9 +19,6 @@ ticks_then (Some old) between new a b = subst (λ found. IfSome found (λ last. 
 due_then : (old between : Option Duration) (now : Duration) → IfSome old (λ last. between ≡ Some last) → IfSome between (λ last. have_passed 1 last now ≡ true) → IfSome old (λ last. have_passed 1 last now ≡ true)
 due_then None between now a b = tt
 due_then (Some old) between now a b = subst (λ found. IfSome found (λ last. have_passed 1 last now ≡ true)) a b
-
-pub passed_same : (ends : Ends) → Passed ends ends
-passed_same ends = record { connections = on_same ends.connections; asked = omega arith; tried = omega arith; ticks = ticks_same ends.ticks.since }
 
 pub passed_then : (old between new : Ends) → Passed old between → Passed between new → Passed old new
 passed_then old between new a b = record {
@@ -85,25 +77,3 @@ passed_steps old stale looked asked on same ticks a b =
       ticks = ticks;
     })
     (passed_then stale looked asked a b)
-
--- what the sockets give is what a host hands in where they are open
-pub come_of : (found : What) (room : List ℕ) (left : Option ℕ) (old new : Ends) → HasCome found room old new → HasComeOf found room left (Some old) (Some new)
-come_of (what.Datagram from len) room left old new has = has
-come_of (what.Opened conn from) room left old new has = has
-come_of (what.Piece conn len) room left old new has = has
-come_of (what.Closed conn) room left old new has = has
-come_of what.Tick room left old new has = has
-come_of what.Restart room left old new has = absurd has
-come_of what.End room left old new has = absurd has
-come_of what.Failed room left old new has = absurd has
-
--- the end comes only where no event is to come any more
-pub end_only : (found : What) (room : List ℕ) (left : Option ℕ) (old new : Option Ends) → HasComeOf found room left old new → OnEnd found (left ≡ Some 0)
-end_only (what.Datagram from len) room left old new has = tt
-end_only (what.Opened conn from) room left old new has = tt
-end_only (what.Piece conn len) room left old new has = tt
-end_only (what.Closed conn) room left old new has = tt
-end_only what.Tick room left old new has = tt
-end_only what.Restart room left old new has = tt
-end_only what.End room left old new has = has
-end_only what.Failed room left old new has = tt

@@ -68,9 +68,6 @@ pub goes_on_marked : (place : Option Connection) → GoesOn place (marked place)
 goes_on_marked None is = cc
 goes_on_marked (Some connection) is = (is, (refl, omega arith))
 
-pub on_marked : (old new : Connections) (at : ℕ) → at_place new at ≡ marked (at_place old at) → SameBeside old at new → AreOn old new
-on_marked old new at here beside = on_beside old new at (subst (GoesOn (at_place old at)) (sym here) (goes_on_marked (at_place old at))) beside
-
 pub on_written : (places : List (Option Connection)) (at : ℕ) (old new : Option Connection) → at < length places → old ≡ get_or places at old → GoesOn old new
     → (place : ℕ) → GoesOn (get_or places place None) (get_or (set places at new) place None)
 on_written places at old new inside read here =
