@@ -167,6 +167,7 @@ fn body(alloc: Global) -> Result<MitigationBody, Fail> {
             aliases: List::new(alloc),
         },
         lifetime: 3600,
+        trigger: true,
     })
 }
 
