@@ -21,6 +21,9 @@ granted 123 -1 = a101a10281a205187b0e20
 told a 123 1 1000 5 p=192.0.2.0/24 = a101a10281a505187b06816c3139322e302e322e302f32340e010f1903e81005
 told c 123 -1 1000 2 p=192.0.2.0/24 = a101a10281a305187b06816c3139322e302e322e302f32340e20
 told n 123 -1 1000 2 p=192.0.2.0/24 = a101a10281a305187b0f1903e81002
+told a 123 1 1000 8 p=192.0.2.0/24 = a101a10281a605187b06816c3139322e302e322e302f32340e010f1903e81008182df4
+told c 123 -1 1000 8 p=192.0.2.0/24 = a101a10281a405187b06816c3139322e302e322e302f32340e20182df4
+told n 123 -1 1000 8 p=192.0.2.0/24 = a101a10281a305187b0f1903e81008
 told n 7,123 60 1000 2 = a101a10282a305070f1903e81002a305187b0f1903e81002
 told c 1 60 0 2 r=80-80 r=8000-8010 g=web = a101a10281a4050107\
 82a2081850091850a208191f4009191f4a0d81637765620e183c
@@ -119,7 +122,7 @@ fn views_of<'a>(
     Some(views)
 }
 
-/// What is told of mitigations for which nothing is asked yet.
+/// What is told of mitigations for which nothing is asked yet. Those of status 8 wait for a lost signal, and no other.
 fn worded_of(alloc: Global, asked: &mut Asked, row: &mut Row<'_>) -> Option<String> {
     let letter = row.text(" ");
     let mids = row.text(" ");
@@ -133,6 +136,7 @@ fn worded_of(alloc: Global, asked: &mut Asked, row: &mut Row<'_>) -> Option<Stri
         left,
         start,
         status,
+        trigger: status != 8,
         content: content(letter),
     };
     let views = views_of(alloc, row, mids, view)?;

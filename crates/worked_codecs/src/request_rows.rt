@@ -65,7 +65,8 @@ PUT MITIGATION BODY %a2%00%00%01%a0 = 4.00 unknown 0
 PUT HEARTBEAT BODY %a1%18%31%a1%18%33%f5 = asked
 PUT HEARTBEAT BODY %a1%18%31%a1%18%33%f6 = 4.00 invalid 51";
 
-/// Scopes of a request for a mitigation. In the last the upper port is below the lower.
+/// Scopes of a request for a mitigation. In the eighth the upper port is below the lower, and the others behind it have `trigger-mitigation`, which a gateway
+/// may not have false.
 const SCOPES: &str = "\
 PUT MITIGATION SCOPE %a2%06%81%6c192.0.2.7/24%0e%19%0e%10 = the mitigation
 PUT MITIGATION SCOPE %a3%06%81%6c192.0.2.0/24%0e%19%0e%10%18%82%00 = the mitigation
@@ -74,7 +75,12 @@ PUT MITIGATION SCOPE %a2%06%81%6c192.0.2.0/24%0e%00 = 4.00 invalid 14
 PUT MITIGATION SCOPE %a2%06%81%6c192.0.2.0/24%0e%20 = asked
 PUT MITIGATION SCOPE %a2%06%80%0e%01 = 4.00 missing 6
 PUT MITIGATION SCOPE %a2%0d%89%61a%61a%61a%61a%61a%61a%61a%61a%61a%0e%01 = 4.00 invalid 13
-PUT MITIGATION SCOPE %a3%07%81%a2%08%18%50%09%18%4f%0b%81%61a%0e%01 = 4.00 invalid 9";
+PUT MITIGATION SCOPE %a3%07%81%a2%08%18%50%09%18%4f%0b%81%61a%0e%01 = 4.00 invalid 9
+PUT MITIGATION SCOPE %a3%06%81%6c192.0.2.0/24%0e%19%0e%10%18%2d%f5 = the mitigation
+PUT MITIGATION SCOPE %a3%06%81%6c192.0.2.0/24%0e%19%0e%10%18%2d%f4 = the mitigation that waits
+PUT MITIGATION SCOPE %a3%06%81%6c192.0.2.0/24%0e%19%0e%10%18%2d%00 = 4.00 invalid 45
+gateway PUT WELL_KNOWN %08mitigate%06cdid=b%06cuid=a%05mid=1 SCOPE %a3%06%81%6c192.0.2.0/24%0e%19%0e%10%18%2d%f5 = asked
+gateway PUT WELL_KNOWN %08mitigate%06cdid=b%06cuid=a%05mid=1 SCOPE %a3%06%81%6c192.0.2.0/24%0e%19%0e%10%18%2d%f4 = 4.00 invalid 45";
 
 /// Configurations at the edges of their grammar, and a mitigation that is observed: Observe is 0 in two bytes.
 const CONFIGS: &str = "\
@@ -123,6 +129,14 @@ fn is_mitigation(request: &Request) -> bool {
         && prefix.length() == 24
 }
 
+/// Whether it asks for a mitigation that filters at once.
+fn triggers(request: &Request) -> bool {
+    match request {
+        Request::PutMitigation { body, .. } => body.trigger,
+        _ => false,
+    }
+}
+
 /// Whether it observes the state of all mitigations.
 fn is_observation(request: &Request) -> bool {
     let Request::GetMitigation {
@@ -146,7 +160,11 @@ fn is_configuration(request: &Request) -> bool {
 
 fn name_of(request: &Request) -> &'static str {
     if is_mitigation(request) {
-        return "the mitigation";
+        return if triggers(request) {
+            "the mitigation"
+        } else {
+            "the mitigation that waits"
+        };
     }
     if is_observation(request) {
         return "the observation";
