@@ -3,6 +3,7 @@ use Rattle.std.specs.Prelude.{◌≡◌, ℕ, Bool, List, None, IsOk, ⊤}
 use Rattle.coap_message.specs.Message.{CoapMessage, IsMessage, spelling}
 use Rattle.dots_heads.specs.Heads.{head_of}
 use Rattle.dots_keys.specs.Askable.{IsAskable}
+use Rattle.dots_keys.specs.Waiting.{WaitsForClient}
 use Rattle.coap_replies.specs.declared.exchange.Exchange.{Exchange}
 use Rattle.dots_machine.specs.declared.received.Received.{Received}
 use Rattle.dots_machine.specs.declared.received.Received.TheVariants as received
@@ -17,7 +18,8 @@ pub record Lacks (datagram : List ℕ) (gateway : Bool) (exchange : Exchange) : 
   pub head : IsOk (head_of message gateway)
   pub exchange_is : exchange ≡ exchange_in message
 
--- a request is one that may be asked: it has its mid, its lists are within their numbers, and its lifetime can be granted
+-- a request is one that may be asked: it has its mid, its lists are within their numbers, its lifetime can be granted, and a mitigation waits for a
+-- lost signal of a client alone
 abbrev pub IsGrantable : Received → Type 0
-IsGrantable (received.Asked exchange request) = IsAskable request
+IsGrantable (received.Asked exchange request) = IsAskable request × WaitsForClient request
 IsGrantable _ = ⊤

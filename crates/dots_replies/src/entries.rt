@@ -4,6 +4,7 @@ ghost use Rattle.std.specs.Prelude.{◌≡◌, ◌≤◌, true, length, [], IfOk
 ghost use Rattle.dots_lists.specs.Name.{is_name};
 ghost use Rattle.dots_machine.specs.Mitigations.{key_of, entry_of};
 ghost use Rattle.dots_machine.specs.Deciding.{config_entry};
+ghost use Rattle.dots_machine.specs.Signals.{signal_entry};
 
 use coap_message::Kind;
 use coap_replies::{Exchange, ShortMessage};
@@ -52,6 +53,22 @@ pub fn config_entry(
         reply,
         change,
     })
+}
+
+/// What is kept of the signal of a client's peer that is lost, or back, at this time, in seconds. It is of no client and of no message. Takes no
+/// memory.
+pub fn signal_entry(alloc: Global, time: u64, peer: u32, domain: u16, change: Change) -> Entry
+    ensures { result ≡ signal_entry time peer change domain }
+{
+    Entry {
+        time,
+        peer,
+        domain,
+        cuid: Text::from_string(String::new(alloc)),
+        key: MessageKey::Http,
+        reply: Bytes::new(alloc),
+        change,
+    }
 }
 
 /// The client's name and the reply, as an entry has them.

@@ -1,5 +1,5 @@
 //! What a datagram says and what is answered: its bytes become what was received ([`receive`]), and each reply of the signal channel is
-//! made here, with what an entry keeps of the one that granted it ([`copies`], [`entry_of`]).
+//! made here, with what an entry keeps of the one that granted it ([`copies`], [`entry_of`]), or of a signal that is lost or back ([`signal_entry`]).
 #![tactic(auto)]
 
 mod configurations;
@@ -9,7 +9,7 @@ mod receiving;
 mod replies;
 
 pub use configurations::config_in;
-pub use entries::{config_entry, copies, entry_of};
+pub use entries::{config_entry, copies, entry_of, signal_entry};
 pub use long_replies::{configuration_reply, conflicting, retrieved_body, showing};
 pub use receiving::receive;
 pub use replies::{

@@ -1,5 +1,5 @@
 -- What is accepted can be taken.
-use Rattle.std.proofs.Common.{◌≡◌, ℕ, ◌≤◌, ◌<◌, ◌^◌, true, false, nat_le, List, length, None, Ok, refl, sym, ap, ◌∙◌, subst, arith}
+use Rattle.std.proofs.Common.{◌≡◌, ℕ, ◌≤◌, ◌<◌, ◌^◌, ◌||◌, true, false, nat_le, List, length, None, Ok, refl, sym, ap, ◌∙◌, subst, arith}
 use Rattle.std.proofs.lemmas.Bool.{and_from}
 use Rattle.std.proofs.lemmas.Bool.Decides.{nat_tests}
 use Rattle.dots_lists.specs.Name.{is_name}
@@ -10,7 +10,7 @@ use Rattle.dots_history.specs.declared.entry.Entry.{Entry}
 use Rattle.dots_history.specs.declared.change.Change.TheVariants as change
 use Rattle.dots_history.specs.Bounds.{asked_within}
 use Rattle.dots_history.specs.Histories.{mitigations}
-use Rattle.dots_laws.specs.Calm.{may_act, is_own}
+use Rattle.dots_laws.specs.Calm.{may_act, is_client_of, is_own}
 use Rattle.dots_laws.specs.Fits.{has_one_peer}
 use Rattle.dots_laws.specs.Tables.{Client}
 use Rattle.dots_keys.specs.Askable.{AreFew}
@@ -43,6 +43,7 @@ few_within asked few =
 
 module _ (server : ServerValue) (asked : MitigationRequest) (judged : Judged) (reply : List ℕ) (may : may_act server.settings (role_of server.settings asked.from.peer) asked.from.domain ≡ true)
     (clear : scope_fault server.settings (prefixes_of server.settings asked.from.domain) asked.body.asked ≡ None) (few : AreFew asked.body.asked)
+    (waits : (asked.body.trigger || is_client_of (role_of server.settings asked.from.peer) asked.from.domain) ≡ true)
     (named : is_name asked.from.cuid ≡ true) (short : length reply ≤ 64)
     (is : (settings : SettingsValue) (state : State) → Represents server settings state → judge_request settings state.time state.history asked.from.domain (request_of asked) ≡ Ok judged) where
   abbrev entry_put : Entry
@@ -54,7 +55,8 @@ module _ (server : ServerValue) (asked : MitigationRequest) (judged : Judged) (r
       let inside = lies_inside settings (prefixes_of settings asked.from.domain) asked.body.asked
       (subst (λ s. scope_fault s (prefixes_of s asked.from.domain) asked.body.asked ≡ None) same clear) in
       own_granted settings state.time state.history asked.from.domain (request_of asked) judged entry_put represents.own
-      (subst (λ s. may_act s (role_of s asked.from.peer) asked.from.domain ≡ true) same may) refl
+      (subst (λ s. may_act s (role_of s asked.from.peer) asked.from.domain ≡ true) same may)
+      (subst (λ s. (asked.body.trigger || is_client_of (role_of s asked.from.peer) asked.from.domain) ≡ true) same waits)
       inside.prefixes inside.names (is settings state represents) refl refl refl refl
 
   pub grant_acceptable : IsAcceptable server entry_put

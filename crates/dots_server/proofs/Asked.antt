@@ -1,7 +1,11 @@
 -- The domain for which is asked is that of the peer's role.
-use Rattle.std.proofs.Common.{◌≡◌, ℕ, Option, Some, None, List, refl, sym, ap, ◌∙◌, subst}
+use Rattle.std.proofs.Common.{◌≡◌, ℕ, Bool, true, ◌||◌, Option, Some, None, List, refl, sym, ap, ◌∙◌, subst}
+use Rattle.std.specs.Prelude.{is_some}
+use Rattle.std.proofs.lemmas.Bool.{or_right, eq-eqb}
+use Rattle.std.proofs.lemmas.Option.{none-some, same_Some}
 use Rattle.dots_settings.specs.Settings.{SettingsValue}
 use Rattle.dots_settings.specs.Lookups.{role_of}
+use Rattle.dots_laws.specs.Calm.{is_client_of}
 use Rattle.coap_replies.specs.declared.exchange.Exchange.{Exchange}
 use Rattle.dots_machine.specs.Verdict.{Verdict}
 use Rattle.dots_machine.specs.declared.verdict.Verdict.TheVariants as verdict
@@ -42,6 +46,14 @@ module _ (here settings : SettingsValue) (peer : ℕ) (own : Option ℕ) (cdid :
 
   pub known_there : (asked : ℕ → Watching) (domain : ℕ) → domain_asked here own cdid ≡ Some domain → asked domain ≡ in_known (domain_for settings (role_of settings peer) cdid) asked
   known_there asked domain some = sym (ap (λ d. in_known d asked) (domain_is ∙ some))
+
+-- a mitigation that waits for a lost signal is asked for by a client
+pub may_wait : (settings : SettingsValue) (peer : ℕ) (own : Option ℕ) → IsOwn settings peer own → (cdid : Option (List ℕ)) (trigger : Bool) (domain : ℕ) → domain_asked settings own cdid ≡ Some domain
+    → (is_some cdid ≡ true → trigger ≡ true) → trigger || is_client_of (role_of settings peer) domain ≡ true
+may_wait settings peer (Some d) is cdid trigger domain there waits =
+    or_right trigger (is_client_of (role_of settings peer) domain) (ap (λ who. is_client_of who domain) is.role ∙ eq-eqb d domain (same_Some d domain there))
+may_wait settings peer None is None trigger domain there waits = absurd (none-some domain there)
+may_wait settings peer None is (Some name) trigger domain there waits = ap (λ b. b || is_client_of (role_of settings peer) domain) (waits refl)
 
 -- ---- a GET of mitigations
 asked_as : (peer : ℕ) (x : Exchange) (path : MitigationPath) (content : Content) (domain : ℕ) (s : Observe)

@@ -1,5 +1,5 @@
 -- The turns of a piece of a connection, one after the other.
-use Rattle.std.proofs.Common.{◌≡◌, ℕ, inl, inr, true, List, [], ◌∷◌, ◌++◌, Option, refl, sym, ap, ◌∙◌, subst}
+use Rattle.std.proofs.Common.{◌≡◌, ℕ, inl, inr, true, List, [], ◌∷◌, ◌++◌, Option, refl, sym, ap, ◌∙◌, subst, append-nil}
 use Rattle.std.specs.List.{list_all}
 use Rattle.dots_host.specs.declared.out.OwnedOut.{OwnedOut}
 use Rattle.dots_host.specs.Acts.{Timed}
@@ -19,6 +19,7 @@ use Rattle.dots_server.specs.Turning.{HasTurn, Turned, Broke, Stored, LiesOn, Is
 use Rattle.dots_server.specs.Taking.{stored_of}
 use Rattle.dots_server.specs.Pieces.{FrontRests, FrontBroke, PieceAnswered, TurnsTaken, PieceTaken, PieceBroke}
 use Rattle.dots_server.proofs.Looping.{kept_stored}
+use Rattle.dots_server.proofs.Turning.{broke_more}
 
 -- ---- a turn from other states with these histories
 
@@ -43,11 +44,8 @@ module _ (settings : SettingsValue) (one other new now : State) (was : one.histo
     }
 
     pub broke_as : Broke settings one new Before media media_new acts acts_new → Broke settings other now Before media media_new acts acts_new
-    broke_as broke = record {
-      silent = broke.silent;
-      writes = λ rests. leaves_as media media_new (HasTurn settings one new) (HasTurn settings other now) as_held (broke.writes rests);
-      own = subst (λ es. list_all (is_own settings) es ≡ true) is broke.own;
-    }
+    broke_as broke =
+        broke_more settings one other new now was time ([], sym is ∙ sym (append-nil new.history)) (subst (λ es. list_all (is_own settings) es ≡ true) is broke.own) Before media media_new acts acts_new broke
 
 -- ---- one turn more
 

@@ -25,3 +25,8 @@ mod Chaining
 mod Fronts
 mod Standing
 mod TakingPieces
+mod LostSignals
+mod Lapsing
+mod Meeting
+mod EventTurns
+mod OneTurn

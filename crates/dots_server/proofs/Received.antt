@@ -1,5 +1,5 @@
 -- What is decided on what is received.
-use Rattle.std.proofs.Common.{◌≡◌, ℕ, Bool, false, List, [], ◌∷◌, Result, Ok, Err, inl, inr, refl, ap, ◌∙◌, subst}
+use Rattle.std.proofs.Common.{◌≡◌, ℕ, Bool, true, false, List, [], ◌∷◌, Result, Ok, Err, inl, inr, refl, ap, ◌∙◌, subst}
 use Rattle.std.specs.Prelude.{IsOk}
 use Rattle.dots_heads.specs.declared.reject.Reject.{Reject}
 use Rattle.dots_keys.specs.declared.request.Request.{Request}
@@ -17,14 +17,14 @@ use Rattle.dots_machine.specs.Domains.{is_gateway, is_stranger}
 use Rattle.coap_replies.specs.Exchanges.{exchange_in}
 use Rattle.dots_machine.specs.Requests.{received_as, IsReceived, unread, asks_nothing, meant}
 use Rattle.dots_machine.specs.Replies.{unavailable}
-use Rattle.dots_machine.specs.Machine.{State, Decides, by_rules, for_want_of_memory}
+use Rattle.dots_machine.specs.Machine.{State, Decides, by_silence, by_rules, for_want_of_memory}
 use Rattle.dots_machine.proofs.Verdicts.{ruled}
 use Rattle.dots_replies.specs.Receiving.{Lacks}
 use Rattle.dots_host.specs.declared.out.OwnedOut.TheVariants as owned
 use Rattle.coap_observe.specs.Seen.{Lists}
 use Rattle.dots_machine.specs.declared.watching.Watching.{Watching}
 use Rattle.dots_machine.specs.declared.watching.Watching.TheVariants as watching
-use Rattle.dots_machine.specs.Observing.{asked_by, unless_dismissed, watching_in, watching_of, by_message, observing}
+use Rattle.dots_machine.specs.Observing.{asked_by, unless_dismissed, watching_in, watching_of, by_message, by_stranger, observing}
 use Rattle.dots_machine.proofs.Observing.{received_watches, unavailable_leaves}
 use Rattle.dots_server.specs.Asking.{IsUnavailable, DecidesOn, DoesOn}
 use Rattle.dots_server.specs.Observing.{DoesDecided}
@@ -107,3 +107,14 @@ module _ (settings : SettingsValue) (state : State) (peer : ℕ) (datagram : Lis
           ap (λ d. observing settings lists peer (unless_dismissed d asked) (verdict.Reply reply) (owned.To peer reply ∷ []) state.observers) lacks.asks
           ∙ ap (λ r. observing settings lists peer asked (verdict.Reply r) (owned.To peer r ∷ []) state.observers) (is ∙ ap unavailable lacks.exchange_is)
           ∙ unavailable_leaves settings peer y lists y state.observers (head_of lacks.message gateway)
+
+-- by what came of a datagram
+pub stranger_decided : (settings : SettingsValue) (state : State) (peer : ℕ) (datagram : List ℕ) → is_stranger (role_of settings peer) ≡ true
+    → DoesDecided settings state peer datagram watching.Nothing verdict.Silent
+stranger_decided settings state peer datagram unknown = record {
+  decided = verdict.Silent;
+  decides = by_silence unknown refl;
+  asked = watching.Nothing;
+  watches = by_stranger unknown refl;
+  does = record { verdict_is = refl; observers = λ lists. refl };
+}

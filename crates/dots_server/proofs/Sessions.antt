@@ -38,7 +38,7 @@ use Rattle.coap_replies.specs.declared.exchange.Exchange.{Exchange}
 use Rattle.dots_machine.specs.declared.received.Received.{Received}
 use Rattle.dots_settings.specs.Lookups.{no_domain}
 use Rattle.coap_replies.specs.Exchanges.{exchange_in}
-use Rattle.dots_machine.specs.Domains.{config_domain, is_stranger}
+use Rattle.dots_machine.specs.Domains.{config_domain, is_gateway, is_stranger}
 use Rattle.dots_machine.specs.Requests.{IsReceived, received_as, unread, asks_nothing, meant}
 use Rattle.held_resources.specs.Tables.{config_now}
 use Rattle.dots_machine.specs.Replies.{configuration_reply, absent}
@@ -46,10 +46,14 @@ use Rattle.dots_machine.specs.Deciding.{config_entry, config_view}
 use Rattle.dots_machine.specs.Sessions.{Configured, sid_of, is_held, configured_in, configured_by, beating_at}
 use Rattle.dots_machine.specs.Verdict.{Verdict}
 use Rattle.dots_machine.specs.declared.verdict.Verdict.TheVariants as verdict
-use Rattle.dots_machine.specs.Machine.{State, Hears, by_message, unreadable, hearing, beating}
+use Rattle.dots_machine.specs.Machine.{State, Hears, by_message, unreadable, by_stranger, hearing, beating}
 use Rattle.dots_replies.specs.Receiving.{Lacks}
 use Rattle.dots_server.specs.ServerValues.{ServerValue, Represents, RepresentsWith, IsKept, IsServing, IsAcceptable, CanCarryOut}
-use Rattle.dots_server.specs.Sessions.{is_heard, is_wanted, met, SaysBeat, beaten}
+use Rattle.dots_server.specs.Sessions.{is_heard, is_wanted, as_heard, met, SaysBeat, beaten}
+use Rattle.dots_server.specs.declared.deciding.Came.{Came}
+use Rattle.dots_server.specs.declared.deciding.Came.TheVariants as came
+use Rattle.dots_server.specs.Asking.{IsCome, heard_by}
+use Rattle.dots_server.proofs.Verdicts.{known_is}
 
 -- ---- who is heard
 
@@ -64,17 +68,25 @@ none_heard peer now rows none = no_row rows none
         cond-false (is_of peer row) (row_heard now row ∷ rows) (row ∷ with_row peer (row_heard now) rows) here ∙ ap (λ rows. row ∷ rows) (no_row rows later)
 
 module _ (settings : SettingsValue) (peer : ℕ) (datagram : List ℕ) (known : is_stranger (role_of settings peer) ≡ false) (state : State) where
-  pub received_heard : (gateway : Bool) (got : Received) → IsReceived datagram gateway got → Hears settings state peer datagram (met (is_heard got) peer state)
-  received_heard gateway got (unread fault breaks e) = unreadable fault breaks (ap (λ got. met (is_heard got) peer state) e)
-  received_heard gateway got (asks_nothing message answer is spelled dismissed e) = by_message known message is spelled (ap (λ got. met (is_heard got) peer state) e)
-  received_heard gateway got (meant message answer is spelled asks means e) = by_message known message is spelled (ap (λ got. met (is_heard got) peer state) e ∙ by_answer answer)
+  pub received_heard : (gateway : Bool) (got : Received) → IsReceived datagram gateway got → Hears settings state peer datagram (met settings (is_heard got) peer state)
+  received_heard gateway got (unread fault breaks e) = unreadable fault breaks (ap (λ got. met settings (is_heard got) peer state) e)
+  received_heard gateway got (asks_nothing message answer is spelled dismissed e) = by_message known message is spelled (ap (λ got. met settings (is_heard got) peer state) e)
+  received_heard gateway got (meant message answer is spelled asks means e) = by_message known message is spelled (ap (λ got. met settings (is_heard got) peer state) e ∙ by_answer answer)
     where
-      by_answer : (answer : Result Request Reject) → met (is_heard (received_as (exchange_in message) answer)) peer state ≡ hearing peer state
+      by_answer : (answer : Result Request Reject) → met settings (is_heard (received_as (exchange_in message) answer)) peer state ≡ hearing settings peer state
       by_answer (Ok request) = refl
       by_answer (Err reject) = refl
 
-  pub lacking_heard : (gateway : Bool) (x : Exchange) → Lacks datagram gateway x → Hears settings state peer datagram (met true peer state)
+  pub lacking_heard : (gateway : Bool) (x : Exchange) → Lacks datagram gateway x → Hears settings state peer datagram (met settings true peer state)
   lacking_heard gateway x lacks = by_message known lacks.message lacks.is_message lacks.spelled refl
+
+-- by what came of a datagram
+pub came_heard : (settings : SettingsValue) (state : State) (peer : ℕ) (datagram : List ℕ) (what : Came) → IsCome settings peer datagram what
+    → Hears settings state peer datagram (met settings (heard_by what) peer state)
+came_heard settings state peer datagram came.FromStranger is = by_stranger is refl
+came_heard settings state peer datagram (came.Lacking x) is = lacking_heard settings peer datagram is.0 state (is_gateway (role_of settings peer)) x is.1
+came_heard settings state peer datagram (came.Received own got) is =
+    received_heard settings peer datagram (ap is_stranger is.0.role ∙ known_is own) state (is_gateway (role_of settings peer)) got is.1
 
 -- under the settings that a server has
 pub hears_by : (given settings : SettingsValue) → given ≡ settings → (state : State) (peer : ℕ) (datagram : List ℕ) (new : State) → Hears given state peer datagram new
@@ -90,7 +102,7 @@ module _ (heard : Bool) (peer : ℕ) (old : ServerValue) where
   abbrev pub with_heard : ServerValue
   with_heard = record old { watch = record old.watch { sessions = heard_sessions } }
 
-  with_met : (settings : SettingsValue) (state : State) (entries : List Entry) → RepresentsWith old settings state entries → RepresentsWith with_heard settings (met heard peer state) entries
+  with_met : (settings : SettingsValue) (state : State) (entries : List Entry) → RepresentsWith old settings state entries → RepresentsWith with_heard settings (as_heard heard peer state) entries
   with_met settings state entries represents =
       let of = represents.represents in record {
         represents = record {
@@ -111,12 +123,12 @@ module _ (heard : Bool) (peer : ℕ) (old : ServerValue) where
         slots = represents.slots;
       }
 
-  pub heard_kept : (settings : SettingsValue) (state : State) (entries : List Entry) → IsKept old settings state entries → IsKept with_heard settings (met heard peer state) entries
+  pub heard_kept : (settings : SettingsValue) (state : State) (entries : List Entry) → IsKept old settings state entries → IsKept with_heard settings (as_heard heard peer state) entries
   heard_kept settings state entries kept = record { represents = with_met settings state entries kept.represents; rests = kept.rests }
 
   pub heard_lives : IsServing old → IsServing with_heard
   heard_lives serving = record {
-    state = met heard peer serving.state;
+    state = as_heard heard peer serving.state;
     entries = serving.entries;
     represents = with_met old.settings serving.state serving.entries serving.represents;
     notified = serving.notified;

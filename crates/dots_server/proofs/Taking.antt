@@ -1,5 +1,5 @@
 -- What one event comes to in a run.
-use Rattle.std.proofs.Common.{◌≡◌, ◌≢◌, ℕ, ◌≤◌, max, inl, List, [], ◌∷◌, Option, Err, refl, sym, ap, ◌∙◌, arith, append-nil}
+use Rattle.std.proofs.Common.{◌≡◌, ◌≢◌, ◌⊎◌, ℕ, ◌≤◌, max, inl, inr, List, [], ◌∷◌, Option, Err, refl, sym, ap, ◌∙◌, arith, append-nil}
 use Rattle.dots_host.specs.declared.event.Event.{Event}
 use Rattle.dots_host.specs.declared.event.Event.TheVariants as event
 use Rattle.dots_host.specs.declared.event.What.{What}
@@ -23,7 +23,9 @@ use Rattle.slot_journal.specs.DiskEntries.{HasEntries}
 use Rattle.slot_journal.specs.DiskEntries as journal
 use Rattle.dots_machine.specs.declared.ending.Stop.{Stop}
 use Rattle.dots_machine.specs.declared.ending.Stop.TheVariants as stop
-use Rattle.dots_machine.specs.Machine.{State, later, restarted, receiving, StepInto}
+use Rattle.dots_host.specs.declared.out.OwnedOut.TheVariants as owned
+use Rattle.dots_machine.specs.declared.verdict.Verdict.TheVariants as verdict
+use Rattle.dots_machine.specs.Machine.{State, later, restarted, receiving, Decides, with_entry, StepInto}
 use Rattle.dots_machine.proofs.Hearing.{hears_time}
 use Rattle.dots_machine.proofs.Fronts.{front_time, fronts_time}
 use Rattle.dots_server.specs.ServerValues.{ServerValue, IsKept}
@@ -80,7 +82,14 @@ module _ (settings : SettingsValue) (state : State) (at : ℕ) (old : ServerValu
 
     -- it didn't
     pub restart_broke : Broke settings state (restarted settings state at) (journal.Represents old.journal settings entries) media media_new acts acts_new
-    restart_broke = record { silent = silent; writes = restart_writes; own = kept.represents.represents.own }
+    restart_broke = record {
+      written = state.history;
+      adds = ([], sym (append-nil state.history));
+      on = ([], sym (append-nil state.history));
+      silent = silent;
+      writes = restart_writes;
+      own = kept.represents.represents.own;
+    }
 
 -- an event at which a run goes on, but for a restart, is one that a server takes
 pub served_of : (what : What) → what ≢ what_is.End → what ≢ what_is.Failed → what ≢ what_is.Restart → IsServed what
@@ -96,9 +105,18 @@ served_of what_is.Tick end failed other = tt
 -- the disk fails in the middle of an event no earlier than the last entry
 pub into_timely : (settings : SettingsValue) (old : State) (what : Event) (at : ℕ) (turns : List (Turn State)) (last : Turn State) → last_time old.history ≤ old.time → StepInto settings old what at turns last
     → last_time old.history ≤ last.left.time
-into_timely settings old (event.Datagram peer datagram) at turns last timely into =
-    let is : last.left.time ≡ max at old.time = ap (λ (turn : Turn State). turn.left.time) into.6 ∙ hears_time settings peer datagram (later old at) into.4 into.5 in
-    omega (arith, timely, is)
+into_timely settings old (event.Datagram peer datagram) at turns last timely into = by_cut into.3
+  where
+    by_cut : ((into.1.history ≢ old.history) × (last ≡ (record { sends = []; left = into.1 })))
+        ⊎ ((reply : List ℕ) × (entry : Entry) × Decides settings into.1 peer datagram (verdict.Accept reply entry)
+        × (last ≡ (record { sends = owned.To peer reply ∷ []; left = with_entry into.1 entry })))
+        → last_time old.history ≤ last.left.time
+    by_cut (inl back) =
+        let is : last.left.time ≡ max at old.time = ap (λ (turn : Turn State). turn.left.time) back.1 ∙ hears_time settings peer datagram (later old at) into.1 into.2 in
+        omega (arith, timely, is)
+    by_cut (inr (reply, entry, decides, is_last)) =
+        let is : last.left.time ≡ max at old.time = ap (λ (turn : Turn State). turn.left.time) is_last ∙ hears_time settings peer datagram (later old at) into.1 into.2 in
+        omega (arith, timely, is)
 into_timely settings old event.End at turns last timely into = absurd into
 into_timely settings old event.Failed at turns last timely into = absurd into
 into_timely settings old (event.Opened c p) at turns last timely into = absurd into
@@ -107,7 +125,9 @@ into_timely settings old (event.Piece c p) at turns last timely into =
     let is : last.left.time ≡ max at old.time = front_time settings c into.0 last.sends last.left into.2 ∙ fronts_time settings c from turns into.0 into.1 in
     omega (arith, timely, is)
 into_timely settings old (event.Closed c) at turns last timely into = absurd into
-into_timely settings old event.Tick at turns last timely into = absurd into
+into_timely settings old event.Tick at turns last timely into =
+    let is : last.left.time ≡ max at old.time = ap (λ (turn : Turn State). turn.left.time) into.2 in
+    omega (arith, timely, is)
 into_timely settings old event.Restart at turns last timely into = absurd into
 
 -- a disk that isn't recovered failed, or the count of its faults stayed

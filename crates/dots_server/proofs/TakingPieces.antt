@@ -82,6 +82,8 @@ module _ (settings : SettingsValue) (conn at : ℕ) (piece : List ℕ) (state : 
         turns = b.turns;
         last = b.last;
         into = (b.between, b.fronts, b.answers, b.entry, b.adds);
+        steps = b.turns;
+        owes = refl;
         stored = b.stored;
         there = b.there;
         told = b.told;

@@ -1,5 +1,6 @@
 -- What an event does to the disk and to the wire, part by part.
-use Rattle.std.proofs.Common.{◌≡◌, ℕ, inl, inr, List, [], ◌∷◌, ◌++◌, Option, Some, None, refl, sym, ◌∙◌, subst, append-nil}
+use Rattle.std.proofs.Common.{◌≡◌, ℕ, inl, inr, true, List, [], ◌∷◌, ◌++◌, length, Option, Some, None, refl, sym, ap, ◌∙◌, subst, arith, append-nil, append_assoc, length-append}
+use Rattle.std.specs.List.{list_all}
 use Rattle.dots_host.specs.declared.out.OwnedOut.{OwnedOut}
 use Rattle.dots_host.specs.Acts.{Timed}
 use Rattle.dots_host.specs.Runs.{Added, Gives}
@@ -15,7 +16,8 @@ use Rattle.dots_ledger.specs.Crashes.{HasEither}
 use Rattle.dots_machine.specs.Machine.{State, with_entry}
 use Rattle.dots_notices.specs.Notifying.{SentTo}
 use Rattle.dots_notices.proofs.Sends.{sent_then, sent_none, keeps_then}
-use Rattle.dots_server.specs.Turning.{HasTurn, Turned, TurnedTo, Wrote, Broke}
+use Rattle.dots_laws.specs.Calm.{is_own}
+use Rattle.dots_server.specs.Turning.{HasTurn, Turned, TurnedTo, Wrote, Broke, Grows}
 
 -- where nothing was written the disk is as it was, at each moment of none
 pub keeps_itself : (media : Option Media) → KeepsMedia media media
@@ -118,6 +120,62 @@ accepting settings n t state entry old new same at now =
     by_image image (inr holds) =
         inr (subst (λ k. HasKept settings k state.time (state.history ++ entry ∷ []) image) same (subst (λ u. HasKept settings n u (state.history ++ entry ∷ []) image) now holds))
 
+-- nothing is sent behind what was written
+pub wrote_turned : (settings : SettingsValue) (old new : State) (Before After : (ℕ → ℕ) → Type 0) (media media_new : Option Media) (moment : ℕ) (acts acts_new : Option (List Timed)) → IsMoment moment media_new
+    → Wrote settings old new Before After media media_new acts acts_new → Turned settings old new [] Before After media media_new acts acts_new
+wrote_turned settings old new Before After media media_new moment acts acts_new at wrote = record {
+  between = media_new;
+  moment = moment;
+  is_moment = at;
+  gives = added_behind acts acts_new acts_new (Gives moment []) wrote.silent (added_none acts_new (Gives moment []) tt);
+  writes = wrote.writes;
+  rests = wrote.rests;
+  sends = keeps_itself media_new;
+}
+
+-- nothing is written
+pub unwritten_wrote : (settings : SettingsValue) (old new : State) (Before : (ℕ → ℕ) → Type 0) (media : Option Media) (acts : Option (List Timed)) → Wrote settings old new Before Before media media acts acts
+unwritten_wrote settings old new Before media acts = record {
+  silent = keeps_acts acts;
+  writes = λ rests. begins media (HasTurn settings old new);
+  rests = λ rests. rests;
+}
+  where
+    keeps_acts : (acts : Option (List Timed)) → KeepsActs acts acts
+    keeps_acts None = tt
+    keeps_acts (Some xs) = refl
+
+-- histories that grow without coming to more
+pub none_more : (from to start last : List Entry) → Grows start from → Grows from to → Grows to last → last ≡ start → to ≡ from
+none_more from to start last first more rest same =
+    let a = ap length first.1 ∙ length-append start first.0 in
+    let b = ap length more.1 ∙ length-append from more.0 in
+    let c = ap length rest.1 ∙ length-append to rest.0 in
+    let d = ap length same in
+    more.1 ∙ ap (λ es. from ++ es) (nothing more.0 (omega (arith, a, b, c, d))) ∙ append-nil from
+  where
+    nothing : (es : List Entry) → length es ≡ 0 → es ≡ []
+    nothing [] none = refl
+    nothing (e ∷ es) none = absurd (omega (arith, none))
+
+-- the disk failed on the way to a state on which another builds, from another with the same history
+pub broke_more : (settings : SettingsValue) (from old new last : State) → from.history ≡ old.history → new.time ≡ last.time → Grows new.history last.history → list_all (is_own settings) last.history ≡ true
+    → (Before : (ℕ → ℕ) → Type 0) (media media_new : Option Media) (acts acts_new : Option (List Timed))
+    → Broke settings from new Before media media_new acts acts_new → Broke settings old last Before media media_new acts acts_new
+broke_more settings from old new last was time grows own Before media media_new acts acts_new broke = record {
+  written = broke.written;
+  adds = subst (λ es. Grows es broke.written) was broke.adds;
+  on = (broke.on.0 ++ grows.0, grows.1 ∙ ap (λ es. es ++ grows.0) broke.on.1 ∙ append_assoc broke.written broke.on.0 grows.0);
+  silent = broke.silent;
+  writes = λ rests. leaves_as media media_new (HasTurn settings from (record new { history = broke.written })) (HasTurn settings old (record last { history = broke.written })) as_held (broke.writes rests);
+  own = own;
+}
+  where
+    as_held : (image : ℕ → ℕ) → HasTurn settings from (record new { history = broke.written }) image → HasTurn settings old (record last { history = broke.written }) image
+    as_held image (inl holds) =
+        inl (subst (λ t. HasKept settings settings.limits.remembered t old.history image) time (subst (λ es. HasKept settings settings.limits.remembered new.time es image) was holds))
+    as_held image (inr holds) = inr (subst (λ t. HasKept settings settings.limits.remembered t broke.written image) time holds)
+
 -- from another state with the same history
 module _ (settings : SettingsValue) (from old new : State) (same : from.history ≡ old.history) (Before : (ℕ → ℕ) → Type 0) (media media_new : Option Media) (acts acts_new : Option (List Timed)) where
   same_start : (image : ℕ → ℕ) → HasTurn settings from new image → HasTurn settings old new image
@@ -137,8 +195,4 @@ module _ (settings : SettingsValue) (from old new : State) (same : from.history 
   }
 
   pub broke_from : Broke settings from new Before media media_new acts acts_new → Broke settings old new Before media media_new acts acts_new
-  broke_from broke = record {
-    silent = broke.silent;
-    writes = λ rests. leaves_as media media_new (HasTurn settings from new) (HasTurn settings old new) same_start (broke.writes rests);
-    own = broke.own;
-  }
+  broke_from broke = broke_more settings from old new new same refl ([], sym (append-nil new.history)) broke.own Before media media_new acts acts_new broke

@@ -1,5 +1,5 @@
 -- A run that goes on by one event, and one that stops.
-use Rattle.std.proofs.Common.{◌≡◌, ◌≢◌, ℕ, ◌+◌, ◌≤◌, ◌⊎◌, List, [], ◌∷◌, ◌++◌, length, Option, Some, None, refl, sym, ap, ◌∙◌, ◌^◌, subst, arith, le_refl, append-nil, append_assoc}
+use Rattle.std.proofs.Common.{◌≡◌, ◌≢◌, ℕ, ◌+◌, ◌≤◌, ◌⊎◌, List, [], ◌∷◌, ◌++◌, length, take, zero, suc, Option, Some, None, refl, sym, ap, ◌∙◌, ◌^◌, subst, arith, le_refl, append-nil, append_assoc, length-append}
 use Rattle.dots_host.specs.declared.event.Event.{Event}
 use Rattle.dots_host.specs.declared.event.Event.TheVariants as event
 use Rattle.dots_host.specs.declared.event.What.{What}
@@ -25,8 +25,8 @@ use Rattle.slot_journal.specs.Untaken.{IsFailure}
 use Rattle.dots_machine.specs.Endings.{Stops, EndsBehind, IsSettled, IsFound}
 use Rattle.dots_machine.specs.Machine.{State, restarted, Step, StepInto}
 use Rattle.dots_machine.specs.Handlings.{AreSends}
-use Rattle.dots_machine.specs.Surviving.{Story, shown_by, past_of, NoneBefore, MeansAt}
-use Rattle.dots_machine.proofs.Surviving.{IsAt, ran_whole, story_length, story_then, gives_late, none_then, none_earlier, leaves_at_none, leaves_at_past, leaves_past, keeps_past, rests_still, event_on, turn_on, broken_on, step_timely}
+use Rattle.dots_machine.specs.Surviving.{Story, shown_by, time_at, past_of, NoneBefore, MeansAt, LeavesAt}
+use Rattle.dots_machine.proofs.Surviving.{IsAt, ran_whole, story_length, story_then, gives_late, none_then, none_earlier, leaves_at_none, leaves_at_so, leaves_at_past, leaves_past, keeps_past, rests_still, event_on, turn_on, broken_on, step_timely}
 use Rattle.dots_server.specs.Turning.{Turned, Broke, Stored, LiesOn, IsStored, Grows, last_left, Chained}
 use Rattle.dots_server.proofs.Beginning.{represents_has}
 use Rattle.dots_server.proofs.Turning.{none_added}
@@ -110,6 +110,24 @@ moment_past moment (Some media) Any rests is = is
 -- a history that grows, and grows again
 pub grows_then : (a b c : List Entry) → Grows a b → Grows b c → Grows a c
 grows_then a b c first second = (first.0 ++ second.0, second.1 ∙ ap (λ es. es ++ second.0) first.1 ∙ append_assoc a first.0 second.0)
+
+-- what a crash leaves of a history is a front of each that builds on it
+pub leaves_more : (settings : SettingsValue) (start : State) (first media : Option Media) (acts : List Timed) (trace : List State) (history more : List Entry) → Grows history more
+    → LeavesAt first media (MeansAt settings start acts trace history) → LeavesAt first media (MeansAt settings start acts trace more)
+leaves_more settings start first media acts trace history more grows leaves =
+    leaves_at_so first media (MeansAt settings start acts trace history) (MeansAt settings start acts trace more) (λ k under image means.
+    record {
+      count = means.count;
+      within = let within = means.within in let longer = ap length grows.1 ∙ length-append history grows.0 in omega (arith, within, longer);
+      has_shown = means.has_shown;
+      image_has = subst (λ es. HasKept settings settings.limits.remembered (time_at k acts trace start.time) es image)
+          (sym (ap (take means.count) grows.1 ∙ take_grown means.count history grows.0 means.within)) means.image_has;
+    }) leaves
+  where
+    take_grown : (n : ℕ) (xs ys : List Entry) → n ≤ length xs → take n (xs ++ ys) ≡ take n xs
+    take_grown zero xs ys le = refl
+    take_grown (suc n) [] ys le = absurd (omega (arith, le))
+    take_grown (suc n) (x ∷ xs) ys le = ap (λ zs. x ∷ zs) (take_grown n xs ys (omega (arith, le)))
 
 module _ (settings : SettingsValue) where
   abbrev owing : State → List (State × OwnedOut) → Owing State
@@ -385,17 +403,18 @@ module _ (settings : SettingsValue) where
               ))
 
     -- the disk failed in the turn behind those that were carried out
-    pub broke_on : (turns : List (Turn State)) (last : Turn State) (after : Stored) (there c : Option Media) (xs ys zs ws vs : Option (List Timed)) (now : ℕ) (late : last_time old.history ≤ last.left.time)
-        → StepInto settings old what at turns last → Chained settings last.left.time old stored turns after b there zs ws → Grows (last_left old turns).history last.left.history
-        → Broke settings (last_left old turns) last.left (LiesOn settings after) there c ws vs → IsNoEnd (took what at) → Added xs ys SoFar → Adds ys moment zs now (took what at)
+    pub broke_on : (turns : List (Turn State)) (last : Turn State) (steps : List (Turn State)) (after : Stored) (there c : Option Media) (xs ys zs ws vs : Option (List Timed)) (now : ℕ)
+        (late : last_time old.history ≤ last.left.time) → owed_in steps ≡ owed_in turns
+        → StepInto settings old what at turns last → Chained settings last.left.time old stored steps after b there zs ws
+        → Broke settings (last_left old steps) last.left (LiesOn settings after) there c ws vs → IsNoEnd (took what at) → Added xs ys SoFar → Adds ys moment zs now (took what at)
         → Added xs vs (HasCome settings from stop.DiskFailed media c Rests (trace ++ last.left ∷ shown_by (owed_in turns)) (owing last.left (each_telling last.left last.sends)))
-    broke_on turns last after there c xs ys zs ws vs now late into chained grows broke goes lives took_it =
+    broke_on turns last steps after there c xs ys zs ws vs now late owes into chained broke goes lives took_it =
         let told : List State = trace ++ last.left ∷ shown_by (owed_in turns) in
         let Q : List Timed → Type 0 = HasCome settings from stop.DiskFailed media c Rests told (owing last.left (each_telling last.left last.sends)) in
-        let stored_there : IsStored settings last.left.time (last_left old turns).history after.entries =
-        chain_stored last.left.time old turns stored after b there zs ws (is_now last.left late turns after there zs ws chained) chained in
+        let stored_there : IsStored settings last.left.time (last_left old steps).history after.entries =
+        chain_stored last.left.time old steps stored after b there zs ws (is_now last.left late steps after there zs ws chained) chained in
         let so_far =
-        event_on_acts last.left late turns after there zs ws chained xs ys now Q lives took_it (λ front more l carried. (
+        event_on_acts last.left late steps after there zs ws chained xs ys now Q lives took_it (λ front more l carried. (
           record {
             whole = front;
             behind = event_taken ∷ more;
@@ -414,18 +433,20 @@ module _ (settings : SettingsValue) where
               into = into;
               given = more;
               acts_are = refl;
-              sent = carried.sends;
+              sent = subst (λ owed. AreSends (outs_of owed) more) owes carried.sends;
               trace_is = refl;
               end_is = refl;
             };
-            stops = goes_behind last.left late turns after there zs ws chained front more l carried goes;
+            stops = goes_behind last.left late steps after there zs ws chained front more l carried goes;
           },
           λ r.
-              let rests_there : RestsWith there (LiesOn settings after) = chain_rests last.left.time old turns stored after b there zs ws (rests_b r) chained in (
+              let rests_there : RestsWith there (LiesOn settings after) = chain_rests last.left.time old steps stored after b there zs ws (rests_b r) chained in (
                 behind_late last.left late r front more l (carried.late (rests_b r)),
-                broken_on settings from (last_left old turns).history grows.0 last.left last.left.time media there c (front ++ event_taken ∷ more) told grows.1
-                    (stands_behind last.left late turns after there zs ws chained r front more l carried)
-                    (stored_rests last.left.time last.left.time (last_left old turns).history after there stored_there stored_there.timely rests_there) (broke.writes rests_there),
+                leaves_more settings from media c (front ++ event_taken ∷ more) told broke.written last.left.history broke.on
+                    (broken_on settings from (last_left old steps).history broke.adds.0 (record last.left { history = broke.written }) last.left.time media there c (front ++ event_taken ∷ more) told broke.adds.1
+                    (subst (λ owed. IsAt settings from (last_left old steps).history last.left.time media there (front ++ event_taken ∷ more) (trace ++ last.left ∷ shown_by owed)) owes
+                    (stands_behind last.left late steps after there zs ws chained r front more l carried))
+                    (stored_rests last.left.time last.left.time (last_left old steps).history after there stored_there stored_there.timely rests_there) (broke.writes rests_there)),
               ),
         )) in
         added_then xs ws vs Q (λ more. more ≡ []) Q so_far (none_added ws vs broke.silent) (λ front back q none. subst Q (ap (λ es. front ++ es) (sym none)) (subst Q (sym (append-nil front)) q))
@@ -449,8 +470,10 @@ module _ (settings : SettingsValue) where
               (says front l.0.goes_on),
           λ r. (
             behind_late new late r front [] l tt,
-            broken_on settings from old.history [] new new.time media b c (front ++ event_taken ∷ []) (trace ++ new ∷ []) (sym (append-nil old.history)) (taken_here new late r front l)
-                (stored_rests old.time new.time old.history stored b is late (rests_b r)) (broke.writes (rests_b r)),
+            leaves_more settings from media c (front ++ event_taken ∷ []) (trace ++ new ∷ []) broke.written new.history broke.on
+                (broken_on settings from old.history broke.adds.0 (record new { history = broke.written }) new.time media b c (front ++ event_taken ∷ []) (trace ++ new ∷ []) broke.adds.1
+                (taken_here new late r front l)
+                (stored_rests old.time new.time old.history stored b is late (rests_b r)) (broke.writes (rests_b r))),
           ),
         )) in
         added_then xs zs vs Q (λ more. more ≡ []) Q so_far (none_added zs vs broke.silent) (λ front back q none. subst Q (ap (λ es. front ++ es) (sym none)) (subst Q (sym (append-nil front)) q))
@@ -538,11 +561,11 @@ module _ (settings : SettingsValue) (start : State) (server : ServerValue) (n mo
   comes_to_failure c vs goes over = record {
     settled = tt;
     trace = lives.trace ++ over.last.left ∷ shown_by (owed_in over.turns);
-    told = broke_on settings start lives.state n moment at what lives.trace first a b now_stored Rests is_stored here lives.rests keeps over.turns over.last over.stored over.there c xs ys zs over.told vs now
-        (into_timely settings lives.state what at over.turns over.last is_stored.timely over.into) over.into over.chained over.grows over.broke goes lives.told took_it;
-    grows = grows_then start.history (last_left lives.state over.turns).history over.last.left.history
-        (grows_then start.history lives.state.history (last_left lives.state over.turns).history lives.grown
-        (chain_grows settings over.last.left.time lives.state over.turns now_stored over.stored b over.there zs over.told over.chained))
+    told = broke_on settings start lives.state n moment at what lives.trace first a b now_stored Rests is_stored here lives.rests keeps over.turns over.last over.steps over.stored over.there c xs ys zs over.told vs now
+        (into_timely settings lives.state what at over.turns over.last is_stored.timely over.into) over.owes over.into over.chained over.broke goes lives.told took_it;
+    grows = grows_then start.history (last_left lives.state over.steps).history over.last.left.history
+        (grows_then start.history lives.state.history (last_left lives.state over.steps).history lives.grown
+        (chain_grows settings over.last.left.time lives.state over.steps now_stored over.stored b over.there zs over.told over.chained))
         over.grows;
     own = over.broke.own;
     found = tt;

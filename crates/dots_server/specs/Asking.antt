@@ -1,5 +1,5 @@
 -- For which domain is asked, and what is decided on what was received.
-use Rattle.std.specs.Prelude.{◌≡◌, ◌⊎◌, ℕ, bytes_eq, List, length, position, Option, Some, None}
+use Rattle.std.specs.Prelude.{◌≡◌, ◌⊎◌, ℕ, Bool, true, false, bytes_eq, List, length, position, Option, Some, None}
 use Rattle.dots_settings.specs.declared.peer.Role.{Role}
 use Rattle.dots_settings.specs.declared.peer.Role.TheVariants as role
 use Rattle.dots_settings.specs.Settings.{SettingsValue, IsKnown}
@@ -9,6 +9,12 @@ use Rattle.dots_machine.specs.Verdict.{Verdict}
 use Rattle.dots_machine.specs.declared.verdict.Verdict.TheVariants as verdict
 use Rattle.dots_settings.specs.Lookups.{role_of}
 use Rattle.dots_machine.specs.Replies.{unavailable}
+use Rattle.dots_machine.specs.Domains.{is_gateway, is_stranger}
+use Rattle.dots_machine.specs.Requests.{IsReceived}
+use Rattle.dots_replies.specs.Receiving.{IsGrantable, Lacks}
+use Rattle.dots_server.specs.declared.deciding.Came.{Came}
+use Rattle.dots_server.specs.declared.deciding.Came.TheVariants as came
+use Rattle.dots_server.specs.Sessions.{is_heard}
 use Rattle.dots_machine.specs.declared.watching.Watching.{Watching}
 use Rattle.dots_machine.specs.Observing.{watching_of}
 use Rattle.dots_server.specs.Observing.{Does}
@@ -29,6 +35,19 @@ abbrev pub domain_asked : SettingsValue → Option ℕ → Option (List ℕ) →
 domain_asked settings (Some domain) cdid = Some domain
 domain_asked settings None None = None
 domain_asked settings None (Some name) = position (λ domain. bytes_eq name domain.name) settings.domains
+
+-- What came of a datagram: it is a stranger's; or there is no memory to read what it asks, all before its body being right; or this was received
+-- of a peer with this domain of its own, or of a gateway.
+abbrev pub IsCome : SettingsValue → ℕ → List ℕ → Came → Type 0
+IsCome settings peer datagram came.FromStranger = is_stranger (role_of settings peer) ≡ true
+IsCome settings peer datagram (came.Lacking exchange) = (is_stranger (role_of settings peer) ≡ false) × Lacks datagram (is_gateway (role_of settings peer)) exchange
+IsCome settings peer datagram (came.Received own got) = IsOwn settings peer own × IsReceived datagram (is_gateway (role_of settings peer)) got × IsGrantable got
+
+-- its peer is heard by it
+abbrev pub heard_by : Came → Bool
+heard_by came.FromStranger = false
+heard_by (came.Lacking exchange) = true
+heard_by (came.Received own got) = is_heard got
 
 abbrev pub IsUnavailable : Received → Verdict → Type 0
 IsUnavailable (received.Asked exchange request) decided = decided ≡ verdict.Reply (unavailable exchange)

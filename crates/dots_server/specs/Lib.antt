@@ -9,3 +9,4 @@ pub mod Reading
 pub mod Asking
 pub mod Sessions
 pub mod Pieces
+pub mod Signals

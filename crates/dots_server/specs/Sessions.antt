@@ -11,7 +11,7 @@ use Rattle.dots_registry.specs.RegistryValues as registry
 use Rattle.dots_machine.specs.declared.received.Received.{Received}
 use Rattle.dots_machine.specs.declared.received.Received.TheVariants as received
 use Rattle.dots_machine.specs.Sessions.{Configured, is_held, beating_at}
-use Rattle.dots_machine.specs.Machine.{State, beating}
+use Rattle.dots_machine.specs.Machine.{State, hearing, beating}
 
 -- what can be read is heard
 abbrev pub is_heard : Received → Bool
@@ -23,9 +23,13 @@ abbrev pub is_wanted : Option ℕ → Option Configured → Bool
 is_wanted None configured = true
 is_wanted (Some sid) configured = is_held sid configured
 
+-- the state with the sessions in which a peer was heard, or wasn't
+abbrev pub as_heard : Bool → ℕ → State → State
+as_heard heard peer state = record state { contacts = if heard then heard_from peer state.time state.contacts else state.contacts }
+
 -- the state in which a peer was met: it was heard, or it wasn't
-abbrev pub met : Bool → ℕ → State → State
-met heard peer state = record state { contacts = if heard then heard_from peer state.time state.contacts else state.contacts }
+abbrev pub met : SettingsValue → Bool → ℕ → State → State
+met settings heard peer state = if heard then hearing settings peer state else state
 
 -- what a registry of the settings says of a peer's heartbeats: what each history that it represents says
 abbrev pub SaysBeat : SettingsValue → RegistryValue → ℕ → ℕ × ℕ → Type 0

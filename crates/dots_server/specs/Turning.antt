@@ -61,11 +61,18 @@ pub record Wrote (settings : SettingsValue) (old new : State) (before after : (�
   pub writes : RestsWith media before → Leaves media media_new (HasTurn settings old new)
   pub rests : RestsWith media before → RestsWith media_new after
 
--- The disk failed on the way from the one state to the other: nothing was sent, and at each moment the disk has entries with the view of the
--- one history or of the other. The entries of the other are the settings' own.
+-- a history to which entries were added, or none
+abbrev pub Grows : List Entry → List Entry → Type 0
+Grows history new = (extra : List Entry) × (new ≡ history ++ extra)
+
+-- The disk failed on the way from the one state to the other, while a history was written on which the other builds: nothing was sent, and at each
+-- moment the disk has entries with the view of the one history or of what was written. The entries of the other are the settings' own.
 pub record Broke (settings : SettingsValue) (old new : State) (before : (ℕ → ℕ) → Type 0) (media media_new : Option Media) (acts acts_new : Option (List Timed)) : Type 0 where
+  pub written : List Entry
+  pub adds : Grows old.history written
+  pub on : Grows written new.history
   pub silent : KeepsActs acts acts_new
-  pub writes : RestsWith media before → Leaves media media_new (HasTurn settings old new)
+  pub writes : RestsWith media before → Leaves media media_new (HasTurn settings old (record new { history = written }))
   pub own : list_all (is_own settings) new.history ≡ true
 
 -- a journal, with the entries that are on its disk
@@ -81,10 +88,6 @@ pub record IsStored (settings : SettingsValue) (time : ℕ) (history entries : L
   pub calm : is_calm settings entries ≡ true
   pub kept : Kept settings.limits.remembered (last_time history) entries history
   pub timely : last_time history ≤ time
-
--- a history to which entries were added, or none
-abbrev pub Grows : List Entry → List Entry → Type 0
-Grows history new = (extra : List Entry) × (new ≡ history ++ extra)
 
 -- the state that the last turn left
 abbrev pub last_left : State → List (Turn State) → State

@@ -1,11 +1,12 @@
 //! What a server decides on a datagram.
 
-ghost use Rattle.std.specs.Prelude.{◌≡◌, ◌<◌, length, true, IfOk, IfSome, IfNone, Some, None, Ok};
+ghost use Rattle.std.specs.Prelude.{◌≡◌, ◌<◌, ◌||◌, ℕ, is_some, List, length, true, IfOk, IfSome, IfNone, Some, None, Ok};
 ghost use Rattle.dots_keys.specs.Askable.{IsAskable, IsAskableBody};
+ghost use Rattle.dots_keys.specs.Waiting.{WaitsForClient};
 ghost use Rattle.dots_settings.specs.Settings.{SettingsValue};
 ghost use Rattle.dots_settings.specs.Lookups.{role_of};
-ghost use Rattle.dots_laws.specs.Calm.{may_act};
-ghost use Rattle.dots_machine.specs.Machine.{State, reject_verdict, dismissal_verdict, Hears, facts_in};
+ghost use Rattle.dots_laws.specs.Calm.{may_act, is_client_of};
+ghost use Rattle.dots_machine.specs.Machine.{State, reject_verdict, dismissal_verdict, facts_in};
 ghost use Rattle.dots_machine.specs.Observing.{in_known, asked_in, watching_of};
 ghost use Rattle.dots_machine.specs.Mitigations.{get_answer};
 ghost use Rattle.dots_machine.specs.declared.received.Received.TheVariants as received;
@@ -14,10 +15,10 @@ ghost use Rattle.dots_machine.specs.declared.verdict.Verdict.TheVariants as verd
 ghost use Rattle.dots_server.specs.Observing.{asked_from, leaving, rejecting, Does, DoesDecided, MayObserve};
 ghost use Rattle.dots_machine.specs.Domains.{domain_for};
 ghost use Rattle.dots_machine.specs.Deciding.{in_domain, with_mid, put_in, put_for, delete_in, delete_for, get_for, answer_to};
-ghost use Rattle.dots_server.specs.Asking.{IsOwn, domain_asked, DoesOn};
+ghost use Rattle.dots_server.specs.Asking.{IsOwn, IsCome, heard_by, domain_asked, DoesOn};
 ghost use Rattle.dots_replies.specs.Receiving.{IsGrantable};
 ghost use Rattle.dots_server.specs.ServerValues.{Represents, CanCarryOut};
-ghost use Rattle.dots_server.specs.Sessions.{is_heard, met};
+ghost use Rattle.dots_server.specs.Sessions.{is_heard};
 
 use crate::mitigations::Reading;
 use crate::server::Server;
@@ -41,52 +42,56 @@ pub(crate) struct Decision {
     pub verdict: Verdict,
 }
 
-/// What is decided on a datagram.
+/// What came of a peer's datagram.
 #[derive(Drop)]
-pub(crate) struct Decided {
-    /// Whether its peer is heard by it.
-    pub heard: bool,
-    pub decision: Decision,
+pub(crate) enum Came {
+    /// It is that of a stranger, which is passed over in silence.
+    FromStranger,
+    /// There is no memory to read the request of this exchange.
+    Lacking(Exchange),
+    /// This was received of a client of this domain, or of a gateway.
+    Received {
+        own: Option<u16>,
+        received: Received,
+    },
 }
 
 impl Server {
-    /// What is decided on a datagram, that of a stranger being passed over in silence, and whether its peer is heard by it. What is accepted can
-    /// be carried out.
-    pub(crate) fn decide(&self, peer: u32, datagram: &[u8]) -> Decided
-        ensures does { (settings : SettingsValue) (state : State) → Represents self.now settings state
-            → DoesDecided settings state peer datagram.now result.decision.watching result.decision.verdict }
-        ensures hears { (state : State) → Hears self.now.settings state peer datagram.now (met result.heard peer state) }
-        ensures ready { CanCarryOut result.decision.verdict self.now }
-        ensures may { MayObserve self.now.watch.observers.pairs result.decision.watching }
+    /// What came of a datagram.
+    pub(crate) fn receive(&self, peer: u32, datagram: &[u8]) -> Came
+        ensures { IsCome self.now.settings peer datagram.now result }
     {
         match self.settings.domain_of(peer) {
-            Role::Stranger => Decided {
-                heard: false,
-                decision: unobserved(Verdict::Silent),
-            },
-            Role::Client(domain) => self.decide_known(peer, Some(domain), datagram),
-            Role::Gateway => self.decide_known(peer, None, datagram),
+            Role::Stranger => Came::FromStranger,
+            Role::Client(domain) => self.receive_known(peer, Some(domain), datagram),
+            Role::Gateway => self.receive_known(peer, None, datagram),
         }
     }
 
-    /// What is decided on the datagram of a client of this domain, or of a gateway.
-    fn decide_known(&self, peer: u32, own: Option<u16>, datagram: &[u8]) -> Decided
-        requires own { IsOwn self.now.settings peer own }
-        ensures does { (settings : SettingsValue) (state : State) → Represents self.now settings state
-            → DoesDecided settings state peer datagram.now result.decision.watching result.decision.verdict }
-        ensures hears { (state : State) → Hears self.now.settings state peer datagram.now (met result.heard peer state) }
-        ensures ready { CanCarryOut result.decision.verdict self.now }
-        ensures may { MayObserve self.now.watch.observers.pairs result.decision.watching }
+    /// What came of the datagram of a client of this domain, or of a gateway.
+    fn receive_known(&self, peer: u32, own: Option<u16>, datagram: &[u8]) -> Came
+        requires { IsOwn self.now.settings peer own }
+        ensures { IsCome self.now.settings peer datagram.now result }
     {
+        let _ = peer;
         match receive(self.alloc, datagram, own.is_none()) {
-            Ok(received) => Decided {
-                heard: is_heard(&received),
-                decision: self.decide_on(peer, own, received),
-            },
-            Err(exchange) => Decided {
-                heard: true,
-                decision: unobserved(Verdict::Reply(unavailable(&exchange))),
-            },
+            Ok(received) => Came::Received { own, received },
+            Err(exchange) => Came::Lacking(exchange),
+        }
+    }
+
+    /// What is decided on what came of a datagram. What is accepted can be carried out.
+    pub(crate) fn decide(&self, peer: u32, came: Came) -> Decision
+        requires came { (datagram : List ℕ) × IsCome self.now.settings peer datagram came }
+        ensures does { (settings : SettingsValue) (state : State) (datagram : List ℕ) → Represents self.now settings state → IsCome settings peer datagram came
+            → DoesDecided settings state peer datagram result.watching result.verdict }
+        ensures ready { CanCarryOut result.verdict self.now }
+        ensures may { MayObserve self.now.watch.observers.pairs result.watching }
+    {
+        match came {
+            Came::FromStranger => unobserved(Verdict::Silent),
+            Came::Lacking(exchange) => unobserved(Verdict::Reply(unavailable(&exchange))),
+            Came::Received { own, received } => self.decide_on(peer, own, received),
         }
     }
 
@@ -126,6 +131,7 @@ impl Server {
         request: Request,
     ) -> Result<Decision, NoMemory>
         requires askable { IsAskable request }
+        requires waits { WaitsForClient request }
         requires own { IsOwn self.now.settings peer own }
         ensures does { (settings : SettingsValue) (state : State) → Represents self.now settings state
             → IfOk result (λ decision. Does settings peer state.observers (watching_of settings peer (received.Asked exchange request))
@@ -166,6 +172,7 @@ impl Server {
         body: MitigationBody,
     ) -> Result<Verdict, NoMemory>
         requires askable { IsAskableBody body }
+        requires waits { is_some path.cdid ≡ true → body.trigger ≡ true }
         requires own { IsOwn self.now.settings peer own }
         ensures decides { (settings : SettingsValue) (state : State) → Represents self.now settings state
             → IfOk result (λ verdict. verdict ≡ in_domain exchange (domain_for settings (role_of settings peer) path.cdid) (put_for settings (facts_in settings state) peer exchange path body)) }
@@ -187,6 +194,7 @@ impl Server {
     ) -> Result<Verdict, NoMemory>
         requires askable { IsAskableBody body }
         requires acts { may_act self.now.settings (role_of self.now.settings from.peer) from.domain ≡ true }
+        requires waits { (body.trigger || is_client_of (role_of self.now.settings from.peer) from.domain) ≡ true }
         ensures decides { (settings : SettingsValue) (state : State) → Represents self.now settings state
             → IfOk result (λ verdict. verdict ≡ with_mid from.exchange mid (put_in settings (facts_in settings state) from body)) }
         ensures ready { IfOk result (λ verdict. CanCarryOut verdict self.now) }
@@ -401,6 +409,17 @@ fn rejecting(dismissal: Dismissal) -> Watching
     match dismissal {
         Dismissal::Rejected { id } => Watching::Rejects(id),
         Dismissal::Ignored | Dismissal::Reset { .. } => Watching::Nothing,
+    }
+}
+
+/// Whether a peer is heard by its datagram: a stranger isn't.
+pub(crate) fn hears(came: &Came) -> bool
+    ensures { result ≡ heard_by came.now }
+{
+    match came {
+        Came::FromStranger => false,
+        Came::Lacking(_) => true,
+        Came::Received { received, .. } => is_heard(received),
     }
 }
 

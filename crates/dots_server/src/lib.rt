@@ -21,6 +21,7 @@ mod pieces;
 mod repeating;
 mod report;
 mod server;
+mod signals;
 mod verdict;
 
 pub use events::take_events;

@@ -1,10 +1,10 @@
 //! What a server decides on requests for mitigations.
 
-ghost use Rattle.std.specs.Prelude.{◌≡◌, ◌≢◌, ◌≤◌, ◌<◌, List, ◌++◌, ◌∷◌, [], map, filter, length, true, false, IfOk, OnOk, None, Err};
+ghost use Rattle.std.specs.Prelude.{◌≡◌, ◌≢◌, ◌≤◌, ◌<◌, ◌||◌, List, ◌++◌, ◌∷◌, [], map, filter, length, true, false, IfOk, OnOk, None, Err};
 ghost use Rattle.dots_keys.specs.Askable.{IsAskableBody};
 ghost use Rattle.dots_settings.specs.Settings.{SettingsValue};
 ghost use Rattle.dots_settings.specs.Lookups.{role_of, prefixes_of};
-ghost use Rattle.dots_laws.specs.Calm.{may_act};
+ghost use Rattle.dots_laws.specs.Calm.{may_act, is_client_of};
 ghost use Rattle.dots_history.specs.declared.entry.Entry.{Entry};
 ghost use Rattle.conflict_rules.specs.Results.{Gives};
 ghost use Rattle.conflict_rules.specs.declared.fault.PutFault.TheVariants as faults;
@@ -53,6 +53,7 @@ impl Server {
     pub(crate) fn decide_put(&self, asked: MitigationRequest) -> Result<Verdict, NoMemory>
         requires askable { IsAskableBody asked.body }
         requires acts { may_act self.now.settings (role_of self.now.settings asked.from.peer) asked.from.domain ≡ true }
+        requires waits { (asked.body.trigger || is_client_of (role_of self.now.settings asked.from.peer) asked.from.domain) ≡ true }
         ensures decides { (settings : SettingsValue) (state : State) → Represents self.now settings state
             → IfOk result (λ verdict. verdict ≡ put_answer settings (facts_in settings state) asked) }
         ensures ready { IfOk result (λ verdict. CanCarryOut verdict self.now) }
@@ -64,6 +65,7 @@ impl Server {
     fn decide_asked(&self, asked: &MitigationRequest) -> Result<Verdict, NoMemory>
         requires askable { IsAskableBody asked.now.body }
         requires acts { may_act self.now.settings (role_of self.now.settings asked.now.from.peer) asked.now.from.domain ≡ true }
+        requires waits { (asked.now.body.trigger || is_client_of (role_of self.now.settings asked.now.from.peer) asked.now.from.domain) ≡ true }
         ensures decides { (settings : SettingsValue) (state : State) → Represents self.now settings state
             → IfOk result (λ verdict. verdict ≡ put_answer settings (facts_in settings state) asked.now) }
         ensures ready { IfOk result (λ verdict. CanCarryOut verdict self.now) }
@@ -83,6 +85,7 @@ impl Server {
     fn judge(&self, asked: &MitigationRequest) -> Result<Verdict, NoMemory>
         requires askable { IsAskableBody asked.now.body }
         requires acts { may_act self.now.settings (role_of self.now.settings asked.now.from.peer) asked.now.from.domain ≡ true }
+        requires waits { (asked.now.body.trigger || is_client_of (role_of self.now.settings asked.now.from.peer) asked.now.from.domain) ≡ true }
         requires clear { scope_fault self.now.settings (prefixes_of self.now.settings asked.now.from.domain) asked.now.body.asked ≡ None }
         ensures decides { (settings : SettingsValue) (state : State) → Represents self.now settings state
             → IfOk result (λ verdict. verdict ≡ judged state.time asked.now (judge_request settings state.time state.history asked.now.from.domain (request_of asked.now))) }

@@ -19,7 +19,7 @@ ghost use Rattle.slot_journal.specs.DiskEntries as journal;
 ghost use Rattle.slot_journal.specs.Refused.{Caused};
 ghost use Rattle.slot_journal.specs.declared.fault.JournalFault.TheVariants as faults;
 ghost use Rattle.slot_journal.specs.Untaken.{RefusesLedger, IsFailure};
-ghost use Rattle.dots_machine.specs.Machine.{State, begun_from, later, restarted, sends_of, after, with_entry, beating};
+ghost use Rattle.dots_machine.specs.Machine.{State, begun_from, later, restarted, sends_of, after, with_entry, beating, Hears};
 ghost use Rattle.dots_machine.specs.Report.{report_of};
 ghost use Rattle.dots_registry.specs.RegistryValues.{time_of};
 ghost use Rattle.dots_registry.specs.ObserverViews.{views_of};
@@ -28,11 +28,13 @@ ghost use Rattle.dots_notices.specs.Beats.{beats};
 ghost use Rattle.dots_notices.specs.Notifying.{SentTo, IsKnown, OnlyUnheardAreDue};
 ghost use Rattle.dots_server.specs.ServerValues.{observers_of, Represents, IsKept, IsAcceptable, CanCarryOut, IsAccepted};
 ghost use Rattle.dots_server.specs.Sessions.{beaten};
-ghost use Rattle.dots_server.specs.Taking.{Took, BrokeOff, Answered, Failing};
+ghost use Rattle.dots_server.specs.Taking.{Took, BrokeOff, Answered, Failing, DatagramTaken, DatagramBroke};
+ghost use Rattle.dots_server.specs.Asking.{IsCome};
 ghost use Rattle.dots_server.specs.Turning.{IsServed, TurnedTo, Wrote, Broke};
 ghost use Rattle.dots_server.specs.Observing.{MayNotify};
 
 use crate::beating::PeerBeats;
+use crate::deciding::{Came, hears};
 use crate::gathering::Gatherer;
 use crate::report::{put_packets, put_rows};
 use crate::verdict::Verdict;
@@ -217,6 +219,7 @@ impl Server {
             }
             What::Tick => {
                 self.move_time(got.at);
+                self.lapse(host)?;
                 self.notify(host);
                 self.send_heartbeats(host);
                 return Ok(());
@@ -241,8 +244,7 @@ impl Server {
         }
     }
 
-    /// Takes a peer's datagram: it is decided on, the peer is heard, the verdict is carried out, and the observers that are due are
-    /// notified.
+    /// Takes a peer's datagram: the peer is met, which may have to be kept, and then the datagram is answered.
     fn take_datagram<H: Host>(
         &mut self,
         host: &mut H,
@@ -251,9 +253,9 @@ impl Server {
     ) -> Result<(), DiskFault>
         requires size { needed_of self.old.journal.slots ≤ H.extent host.old }
         ensures done { OnOk result ((settings : SettingsValue) (state : State) (entries : List Entry) → IsKept self.old settings state entries
-            → Answered settings state peer datagram.now self.old self.new entries (H.media host.old) (H.media host.new) (H.acts host.old) (H.acts host.new)) }
+            → DatagramTaken settings state peer datagram.now self.old self.new entries (H.media host.old) (H.media host.new) (H.acts host.old) (H.acts host.new)) }
         ensures failed { OnErr result ((settings : SettingsValue) (state : State) (entries : List Entry) → IsKept self.old settings state entries
-            → Failing settings state peer datagram.now self.old entries (H.media host.old) (H.media host.new) (H.acts host.old) (H.acts host.new)) }
+            → DatagramBroke settings state peer datagram.now self.old entries (H.media host.old) (H.media host.new) (H.acts host.old) (H.acts host.new)) }
         ensures observers { OnOk result (IsKnown (views_of self.new.registry) self.new.watch.due self.new.watch.observers.observed) }
         ensures all { OnOk result (self.new.watch.refused ≡ None
             → OnlyUnheardAreDue (views_of self.new.registry) self.new.watch.sessions self.new.watch.observers.observed) }
@@ -265,9 +267,40 @@ impl Server {
         ensures wire { H.Wire.faults host.new ≡ H.Wire.faults host.old }
         ensures leads { H.leads host.old host.new }
     {
-        let decided = self.decide(peer, datagram);
-        self.hear(peer, decided.heard);
-        let decision = decided.decision;
+        let came = self.receive(peer, datagram);
+        let heard = hears(&came);
+        match self.meet(host, peer, heard) {
+            Ok(()) => return self.answer(host, peer, came),
+            Err(fault) => {
+                drop(came);
+                return Err(fault);
+            }
+        }
+    }
+
+    /// Answers what came of the datagram of a peer that was met: it is decided on, the verdict is carried out, and the observers that are due are
+    /// notified.
+    fn answer<H: Host>(&mut self, host: &mut H, peer: u32, came: Came) -> Result<(), DiskFault>
+        requires came { (datagram : List ℕ) × IsCome self.old.settings peer datagram came }
+        requires size { needed_of self.old.journal.slots ≤ H.extent host.old }
+        ensures done { OnOk result ((settings : SettingsValue) (state met : State) (entries : List Entry) (datagram : List ℕ) → IsKept self.old settings met entries
+            → IsCome settings peer datagram came → Hears settings state peer datagram met
+            → Answered settings state met peer datagram self.old self.new entries (H.media host.old) (H.media host.new) (H.acts host.old) (H.acts host.new)) }
+        ensures failed { OnErr result ((settings : SettingsValue) (met : State) (entries : List Entry) (datagram : List ℕ) → IsKept self.old settings met entries
+            → IsCome settings peer datagram came
+            → Failing settings met peer datagram self.old entries (H.media host.old) (H.media host.new) (H.acts host.old) (H.acts host.new)) }
+        ensures observers { OnOk result (IsKnown (views_of self.new.registry) self.new.watch.due self.new.watch.observers.observed) }
+        ensures all { OnOk result (self.new.watch.refused ≡ None
+            → OnlyUnheardAreDue (views_of self.new.registry) self.new.watch.sessions self.new.watch.observers.observed) }
+        ensures adds { Added (H.acts host.old) (H.acts host.new) (λ _. ⊤) }
+        ensures settings { self.new.settings ≡ self.old.settings }
+        ensures slots { self.new.journal.slots ≡ self.old.journal.slots }
+        ensures extent { H.extent host.new ≡ H.extent host.old }
+        ensures cause { HasCause (H.Disk.faults host.old) (H.Disk.faults host.new) result }
+        ensures wire { H.Wire.faults host.new ≡ H.Wire.faults host.old }
+        ensures leads { H.leads host.old host.new }
+    {
+        let decision = self.decide(peer, came);
         match self.carry_out(host, peer, decision.verdict) {
             Ok(()) => {}
             Err(fault) => return Err(fault),
@@ -293,7 +326,7 @@ impl Server {
     }
 
     /// The peer is heard by what it sent, or it isn't.
-    fn hear(&mut self, peer: u32, heard: bool)
+    pub(crate) fn hear(&mut self, peer: u32, heard: bool)
         ensures { self.new ≡ record self.old {
           watch = record self.old.watch { sessions = if heard then heard_from peer (time_of self.old.registry) self.old.watch.sessions else self.old.watch.sessions };
         } }

@@ -11,6 +11,9 @@ pub returns-in-Ok-clause-received : goal.returns-in-Ok-clause-received
 returns-in-Ok-clause-received c =
     meant c.args.message.now (Ok c.in-Ok.request) c.requires refl (sym c.dismissed.ensures ∙ c.in_default.is) c.in-Ok.ensures.means (ap (λ x. received.Asked x c.in-Ok.request) c.of-exchange.ensures)
 
+pub returns-in-Ok-clause-grantable : goal.returns-in-Ok-clause-grantable
+returns-in-Ok-clause-grantable c = (c.in-Ok.ensures.askable, c.in-Ok.ensures.waits)
+
 pub returns-in_default-reject : goal.returns-in_default-reject
 returns-in_default-reject c =
     let reject = c.in-Err.reject in

@@ -1,5 +1,4 @@
-use Rattle.std.proofs.Common.{◌++◌, take, refl, sym, ap, ◌∙◌, [], ◌∷◌, subst, append-nil, arith}
-use Rattle.dots_host.specs.declared.out.OwnedOut.TheVariants as owned
+use Rattle.std.proofs.Common.{take, refl, sym, ap, ◌∙◌, [], ◌∷◌, subst, append-nil, arith}
 use Rattle.dots_host.specs.Runs.{Added, Gives, each_telling}
 use Rattle.dots_host.proofs.RunLemmas.{added_weaker}
 use Rattle.slot_store.specs.StoreValues.{JournalValue}
@@ -14,126 +13,78 @@ use Rattle.dots_registry.specs.ObserverViews.{views_of}
 use Rattle.dots_notices.specs.Notifying.{SentTo, IsKnown}
 use Rattle.dots_notices.proofs.Sends.{sent_then, keeps_then}
 use Rattle.stream_table.specs.Lines.{opened, opening, forgotten}
-use Rattle.dots_machine.specs.Machine.{later, with_entry, beating, connected, disconnected, turned_away}
-use Rattle.dots_machine.proofs.Observing.{told_history}
+use Rattle.dots_machine.specs.Machine.{later, lapsed, beating, connected, disconnected, turned_away}
 use Rattle.dots_server.specs.ServerValues.{ServerValue, IsKept}
 use Rattle.dots_server.specs.Observing.{MayNotify}
-use Rattle.dots_server.specs.Sessions.{beaten}
-use Rattle.dots_server.specs.Turning.{Turned, Broke}
+use Rattle.dots_server.specs.Turning.{Turned}
 use Rattle.dots_server.specs.Taking.{stored_of}
 use Rattle.dots_server.proofs.Looping.{kept_stored}
 use Rattle.dots_server.proofs.Connecting.{lines_kept}
-use Rattle.dots_server.proofs.Turning.{unwritten, turned_from, broke_from}
+use Rattle.dots_server.proofs.Turning.{unwritten}
 use Rattle.dots_server.proofs.Following.{added_on}
 use Rattle.dots_server.proofs.TakingPieces.{piece_took, piece_broke_off}
+use Rattle.dots_server.proofs.EventTurns.{datagram_took, datagram_broke_off, tick_took, tick_broke_off}
 use Rattle.dots_server.proofs.server.Server.handle.Goals as goal
 
 pub returns-in-Datagram-clause-done : goal.returns-in-Datagram-clause-done
 returns-in-Datagram-clause-done g c =
     ok_as c.take_datagram.result _ _ (λ goes settings state entries kept.
-    let now = later state c.args.got.now.at in
+    let at = c.args.got.now.at in
     let host = c.args.host.now in
     let left = c.take_datagram.new.host in
-    let moved = c.move_time.ensures.kept settings state entries kept in
-    let done = goes settings now entries moved in
-    record {
-      turns = (record { sends = done.sends; left = done.new }) ∷ [];
-      new = done.new;
-      few = done.few;
-      step = rw c.in-Datagram.is (done.sends, append-nil (each_telling done.new done.sends), done.answers);
-      kept = done.kept;
-      chained = (
-        stored_of c.take_datagram.new.self done.few,
-        g.H.Disk.media left,
-        g.H.Wire.acts left,
-        refl,
-        done.grows,
-        kept_stored c.take_datagram.new.self settings done.new done.few done.kept,
-        turned_from settings now state done.new refl (journal.Represents c.args.self.now.journal settings entries) (g.H.Disk.media host) (g.H.Disk.media left) (g.H.Wire.acts host) (g.H.Wire.acts left) done.sends
-            (journal.Represents c.take_datagram.new.self.journal settings done.few)
-            (subst
-            (λ (j : JournalValue). Turned settings now done.new done.sends (journal.Represents j settings entries) (journal.Represents c.take_datagram.new.self.journal settings done.few) (g.H.Disk.media host)
-            (g.H.Disk.media left) (g.H.Wire.acts host) (g.H.Wire.acts left))
-            c.move_time.ensures.journal
-            done.turned),
-        (refl, refl, refl),
-      );
-      left = refl;
-    })
+    rw c.in-Datagram.is (
+    datagram_took settings at state c.args.self.now c.move_time.new.self entries c.move_time.ensures.journal (g.H.Disk.media host) (g.H.Disk.media left) (g.H.Wire.acts host) (g.H.Wire.acts left)
+    c.in-Datagram.from (take c.in-Datagram.len c.args.room.now) c.take_datagram.new.self (goes settings (later state at) entries (c.move_time.ensures.kept settings state entries kept))
+    ))
     c.take_datagram.ensures.done
 
 pub returns-in-Datagram-clause-failed : goal.returns-in-Datagram-clause-failed
 returns-in-Datagram-clause-failed g c =
     err_as c.take_datagram.result _ _ (λ goes settings state entries kept.
-    let now = later state c.args.got.now.at in
+    let at = c.args.got.now.at in
     let host = c.args.host.now in
     let left = c.take_datagram.new.host in
-    let moved = c.move_time.ensures.kept settings state entries kept in
-    let failing = goes settings now entries moved in
-    let new = with_entry failing.met failing.entry in
-    record {
-      turns = [];
-      last = record { sends = owned.To c.in-Datagram.from failing.reply ∷ []; left = new };
-      into = rw c.in-Datagram.is (refl, failing.reply, failing.entry, failing.decides, failing.met, failing.hears, refl);
-      stored = stored_of c.args.self.now entries;
-      there = g.H.Disk.media host;
-      told = g.H.Wire.acts host;
-      chained = (refl, refl, refl);
-      grows = failing.grows;
-      broke = broke_from settings now state new refl (journal.Represents c.args.self.now.journal settings entries) (g.H.Disk.media host) (g.H.Disk.media left) (g.H.Wire.acts host) (g.H.Wire.acts left)
-          (subst
-          (λ (j : JournalValue). Broke settings now new (journal.Represents j settings entries) (g.H.Disk.media host) (g.H.Disk.media left) (g.H.Wire.acts host) (g.H.Wire.acts left))
-          c.move_time.ensures.journal
-          failing.broke);
-    })
+    rw c.in-Datagram.is (
+    datagram_broke_off settings at state c.args.self.now c.move_time.new.self entries c.move_time.ensures.journal (g.H.Disk.media host) (g.H.Disk.media left) (g.H.Wire.acts host) (g.H.Wire.acts left)
+    c.in-Datagram.from (take c.in-Datagram.len c.args.room.now) (goes settings (later state at) entries (c.move_time.ensures.kept settings state entries kept))
+    ))
     c.take_datagram.ensures.failed
 
 pub returns-in-Tick-clause-done : goal.returns-in-Tick-clause-done
 returns-in-Tick-clause-done g c = λ settings state entries kept.
-    let now = later state c.args.got.now.at in
+    let at = c.args.got.now.at in
+    let now = later state at in
     let host = c.args.host.now in
+    let there = c.lapse.new.host in
     let between = c.notify.new.host in
     let left = c.send_heartbeats.new.host in
     let moved = c.move_time-in-Tick.ensures.kept settings state entries kept in
-    let tells = c.notify.ensures.notified settings now entries moved in
+    let taken = c.in_ok-lapse-in-Tick.ensures.done settings now entries moved in
+    let tells = c.notify.ensures.notified settings (lapsed settings now) taken.few taken.kept in
     let notices = tells.0 in
     let told = tells.1 in
     let heartbeats = beats (beating settings told) told.time told.contacts in
-    let sends = notices ++ heartbeats in
-    let new = beaten settings told in
-    let kept_so = c.send_heartbeats.ensures.kept settings told entries tells.3 in
     let sent =
-    sent_then (g.H.Wire.acts host) (g.H.Wire.acts between) (g.H.Wire.acts left) (g.H.Wire.moment host) (g.H.Wire.moment between) (g.H.Wire.moment left) notices heartbeats tells.4
+    sent_then (g.H.Wire.acts there) (g.H.Wire.acts between) (g.H.Wire.acts left) (g.H.Wire.moment there) (g.H.Wire.moment between) (g.H.Wire.moment left) notices heartbeats tells.4
     (c.send_heartbeats.ensures.sent settings told tells.3.represents.represents) in
-    let gives = added_weaker (g.H.Wire.acts host) (g.H.Wire.acts left) (SentTo (g.H.Wire.moment host) (g.H.Wire.moment left) sends) (Gives (g.H.Wire.moment host) sends) sent (λ acts is. is.0) in
-    record {
-      turns = (record { sends = sends; left = new }) ∷ [];
-      new = new;
-      few = entries;
-      step = rw c.in-Tick.is (
-        sends,
-        append-nil (each_telling new sends),
-        record { notices = notices; told = told; notified = tells.2; heartbeats = heartbeats; beaten = (refl, refl); sends_are = refl },
-      );
-      kept = kept_so;
-      chained = (
-        stored_of c.send_heartbeats.new.self entries,
-        g.H.Disk.media left,
-        g.H.Wire.acts left,
-        refl,
-        ([], told_history settings now told notices tells.2 ∙ sym (append-nil state.history)),
-        kept_stored c.send_heartbeats.new.self settings new entries kept_so,
-        subst
-            (λ (j : JournalValue). Turned settings state new sends (journal.Represents c.args.self.now.journal settings entries) (journal.Represents j settings entries) (g.H.Disk.media host) (g.H.Disk.media left)
-            (g.H.Wire.acts host) (g.H.Wire.acts left))
-            (sym (c.send_heartbeats.ensures.journal ∙ c.notify.ensures.journal ∙ c.move_time-in-Tick.ensures.journal))
-            (unwritten settings state new sends (journal.Represents c.args.self.now.journal settings entries) (g.H.Disk.media host) (g.H.Disk.media left) (g.H.Wire.moment host) (g.H.Wire.acts host) (g.H.Wire.acts left)
-            (g.met.H.Host.one_moment host) gives
-            (keeps_then (g.H.Disk.media host) (g.H.Disk.media between) (g.H.Disk.media left) c.notify.ensures.media c.send_heartbeats.ensures.media)),
-        (refl, refl, refl),
-      );
-      left = refl;
-    }
+    rw c.in-Tick.is (
+    tick_took settings at state c.args.self.now c.move_time-in-Tick.new.self entries c.move_time-in-Tick.ensures.journal c.lapse.new.self c.send_heartbeats.new.self
+    (g.H.Disk.media host) (g.H.Disk.media there) (g.H.Disk.media left) (g.H.Wire.acts host) (g.H.Wire.acts there) (g.H.Wire.acts left) (g.H.Wire.moment there) (g.H.Wire.moment left)
+    taken notices told tells.2 (c.send_heartbeats.ensures.kept settings told taken.few tells.3) (c.send_heartbeats.ensures.journal ∙ c.notify.ensures.journal) (g.met.H.Host.one_moment there) sent
+    (keeps_then (g.H.Disk.media there) (g.H.Disk.media between) (g.H.Disk.media left) c.notify.ensures.media c.send_heartbeats.ensures.media)
+    )
+
+pub returns-in_err-lapse-in-Tick-clause-failed : goal.returns-in_err-lapse-in-Tick-clause-failed
+returns-in_err-lapse-in-Tick-clause-failed g c =
+    err_of c.from_residual.result _ (λ settings state entries kept.
+    let at = c.args.got.now.at in
+    let host = c.args.host.now in
+    let left = c.lapse.new.host in
+    rw c.in-Tick.is (
+    tick_broke_off settings at state c.args.self.now c.move_time-in-Tick.new.self entries c.move_time-in-Tick.ensures.journal
+    (g.H.Disk.media host) (g.H.Disk.media left) (g.H.Wire.acts host) (g.H.Wire.acts left)
+    (c.in_err-lapse-in-Tick.ensures.failed settings (later state at) entries (c.move_time-in-Tick.ensures.kept settings state entries kept))
+    ))
 
 pub returns-in-Piece-clause-done : goal.returns-in-Piece-clause-done
 returns-in-Piece-clause-done g c = λ settings state entries kept.
@@ -153,7 +104,7 @@ returns-in-Piece-clause-done g c = λ settings state entries kept.
 
 pub returns-in_err-take_piece-in-Piece-clause-failed : goal.returns-in_err-take_piece-in-Piece-clause-failed
 returns-in_err-take_piece-in-Piece-clause-failed g c =
-    err_of c.from_residual.result _ (λ settings state entries kept.
+    err_of c.from_residual-in_err-take_piece-in-Piece.result _ (λ settings state entries kept.
     let at = c.args.got.now.at in
     let host = c.args.host.now in
     let left = c.take_piece.new.host in

@@ -17,7 +17,7 @@ returns-in-Ok-clause-ready c =
     if_both c.grant.result _ _ _ _
     (λ v is named short.
     subst (λ v. CanCarryOut v c.args.self.now) (sym is)
-    (grant_acceptable c.args.self.now asked c.in-Ok.judged (granting asked.from.exchange c.in-Ok.judged) c.requires.acts c.requires.clear c.requires.askable.few named short
+    (grant_acceptable c.args.self.now asked c.in-Ok.judged (granting asked.from.exchange c.in-Ok.judged) c.requires.acts c.requires.clear c.requires.askable.few c.requires.waits named short
     (λ settings state represents. judged_here c.args.self.now settings state asked represents (Ok c.in-Ok.judged) (c.in-Ok.ensures state.history represents.registry))))
     c.grant.ensures.verdict c.grant.ensures.cuid c.grant.ensures.reply
 

@@ -1,4 +1,4 @@
-use Rattle.std.proofs.Common.{refl, sym, ap, ◌∙◌, subst}
+use Rattle.std.proofs.Common.{[], ◌∷◌, refl, sym, ap, ◌∙◌, subst, append-nil}
 use Rattle.dots_settings.specs.declared.limits.Limits.{Limits}
 use Rattle.dots_history.specs.declared.entry.Entry.{Entry}
 use Rattle.coap_observe.specs.DueAmong.{joined}
@@ -44,6 +44,9 @@ returns-in_err-accept-clause-failed g c =
     accepting settings (number_remembered old.registry) (time_of old.registry) state entry (g.H.Disk.media host) (g.H.Disk.media left) (ap (λ (limits : Limits). limits.remembered) of.is_of.limits) of.time_is
     (can.now ∙ of.time_is) (c.accept.ensures.moments settings state.history entries here.represents.ledger joins rests) in
     record {
+      written = (with_entry state entry).history;
+      adds = (entry ∷ [], refl);
+      on = ([], sym (append-nil (with_entry state entry).history));
       silent = (g.met.H.Host.disk_keeps host left c.accept.ensures.beside).0;
       writes = subst (λ (server : ServerValue). RestsWith (g.H.Disk.media host) (journal.Represents server.journal settings entries) → Leaves (g.H.Disk.media host) (g.H.Disk.media left) (HasTurn settings state (with_entry state entry)))
           c.self.view_is writes;

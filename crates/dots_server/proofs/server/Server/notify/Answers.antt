@@ -1,5 +1,4 @@
 use Rattle.std.proofs.Common.{sym, subst}
-use Rattle.coap_observe.specs.declared.due_among.DueAmong.{DueAmong}
 use Rattle.coap_observe.specs.DueAmong.{AreNotified}
 use Rattle.dots_machine.specs.Machine.{State}
 use Rattle.dots_notices.specs.Notifying.{Notifies, IsKnown, OnlyUnheardAreDue}

@@ -1,11 +1,18 @@
-use Rattle.std.proofs.Common.{◌∙◌, ap}
+use Rattle.std.proofs.Common.{◌||◌, ◌∙◌, ap}
+use Rattle.dots_settings.specs.Lookups.{role_of}
+use Rattle.dots_laws.specs.Calm.{is_client_of}
 use Rattle.dots_machine.specs.declared.client_request.ClientRequest.{ClientRequest}
 use Rattle.dots_machine.specs.declared.verdict.Verdict.TheVariants as verdict
 use Rattle.dots_machine.specs.Deciding.{with_mid, put_in, put_for}
 use Rattle.dots_machine.specs.Machine.{facts_in}
-use Rattle.dots_server.proofs.Asked.{without_domain, with_domain}
+use Rattle.dots_server.proofs.Asked.{without_domain, with_domain, may_wait}
 use Rattle.dots_server.proofs.Verdicts.{if_ok}
 use Rattle.dots_server.proofs.server.Server.put_by_path.Goals as goal
+
+pub put_with_mid-requires-clause-waits : goal.put_with_mid-requires-clause-waits
+put_with_mid-requires-clause-waits c =
+    ap (λ (from : ClientRequest). c.args.body.trigger || is_client_of (role_of c.args.self.now.settings from.peer) from.domain) c.in-Some.ensures.some.1
+    ∙ may_wait c.args.self.now.settings c.args.peer c.args.own c.requires.own c.args.path.cdid c.args.body.trigger c.in-Some.from.domain c.in-Some.ensures.some.0 c.requires.waits
 
 pub returns-in-Some-clause-decides : goal.returns-in-Some-clause-decides
 returns-in-Some-clause-decides c = λ settings state represents.

@@ -1,131 +1,56 @@
-use Rattle.std.proofs.Common.{◌≡◌, ◌++◌, List, None, refl, sym, ap, ◌∙◌, [], ◌∷◌, subst}
-use Rattle.coap_observe.specs.Observed.{ObservedValue}
-use Rattle.slot_store.specs.StoreValues.{JournalValue}
-use Rattle.slot_journal.specs.DiskEntries as journal
-use Rattle.dots_machine.specs.Verdict.{Verdict}
-use Rattle.dots_machine.specs.Observing.{number_of, observing}
-use Rattle.dots_machine.specs.Machine.{State, Decides, with_entry, sends_of, after, watched}
-use Rattle.dots_machine.proofs.Hearing.{after_observers}
-use Rattle.dots_machine.proofs.Observing.{told_history, told_time}
-use Rattle.dots_machine.proofs.Surviving.{verdict_grows}
-use Rattle.dots_server.specs.Observing.{changed}
-use Rattle.dots_server.specs.ServerValues.{ServerValue, IsKept, CanCarryOut}
+use Rattle.std.proofs.Common.{sym, subst}
+use Rattle.dots_ledger.proofs.Answering.{ok_as, err_as}
+use Rattle.dots_machine.specs.Machine.{Hears}
+use Rattle.dots_server.specs.Asking.{IsCome}
 use Rattle.dots_server.specs.Sessions.{met}
-use Rattle.dots_server.specs.Turning.{TurnedTo, Broke}
-use Rattle.dots_server.proofs.Sessions.{hears_by, heard_kept, carried_still}
-use Rattle.dots_server.proofs.Notifying.{observed_kept}
-use Rattle.dots_server.proofs.Turning.{told_behind, turned_from, broke_from}
-use Rattle.dots_server.proofs.Watching.{spoken_sends, spoken_after, spoken_accepts}
+use Rattle.dots_server.proofs.Sessions.{came_heard}
+use Rattle.dots_server.proofs.EventTurns.{met_grows, datagram_taken, datagram_failed, meeting_failed}
 use Rattle.dots_server.proofs.server.Server.take_datagram.Goals as goal
 
-pub carry_out-requires-clause-ready : goal.carry_out-requires-clause-ready
-carry_out-requires-clause-ready g c =
-    subst (CanCarryOut c.decide-decided.result.decision.verdict) (sym c.hear.ensures)
-    (carried_still c.args.self.now _ c.decide-decided.result.decision.verdict c.decide-decided.ensures.ready)
+pub answer-requires-clause-came : goal.answer-requires-clause-came
+answer-requires-clause-came g c =
+    (c.args.datagram.now, subst (λ s. IsCome s c.args.peer c.args.datagram.now c.receive-came.result) (sym c.meet.ensures.settings) c.receive-came.ensures)
+
+pub returns-in-Ok-clause-done : goal.returns-in-Ok-clause-done
+returns-in-Ok-clause-done g c =
+    ok_as c.answer.result _ _ (λ goes settings state entries kept.
+    let peer = c.args.peer in
+    let host = c.args.host.now in
+    let there = c.meet.new.host in
+    let left = c.answer.new.host in
+    let here = met settings c.hears-heard.result peer state in
+    let come = subst (λ s. IsCome s peer c.args.datagram.now c.receive-came.result) kept.represents.represents.settings_are c.receive-came.ensures in
+    let hears = subst (λ heard. Hears settings state peer c.args.datagram.now (met settings heard peer state)) (sym c.hears-heard.ensures) (came_heard settings state peer c.args.datagram.now c.receive-came.result come) in
+    let (few, met_kept, wrote) = c.in-Ok.ensures.done settings state entries kept in
+    datagram_taken settings state here peer c.args.datagram.now hears (met_grows settings c.hears-heard.result peer state) c.args.self.now c.meet.new.self entries few
+    (g.H.Disk.media host) (g.H.Disk.media there) (g.H.Wire.acts host) (g.H.Wire.acts there) met_kept (g.H.Wire.moment there) (g.met.H.Host.one_moment there) wrote
+    c.answer.new.self (g.H.Disk.media left) (g.H.Wire.acts left) (goes settings state here few c.args.datagram.now met_kept come hears))
+    c.answer.ensures.done
+
+pub returns-in-Ok-clause-failed : goal.returns-in-Ok-clause-failed
+returns-in-Ok-clause-failed g c =
+    err_as c.answer.result _ _ (λ goes settings state entries kept.
+    let peer = c.args.peer in
+    let host = c.args.host.now in
+    let there = c.meet.new.host in
+    let left = c.answer.new.host in
+    let here = met settings c.hears-heard.result peer state in
+    let come = subst (λ s. IsCome s peer c.args.datagram.now c.receive-came.result) kept.represents.represents.settings_are c.receive-came.ensures in
+    let hears = subst (λ heard. Hears settings state peer c.args.datagram.now (met settings heard peer state)) (sym c.hears-heard.ensures) (came_heard settings state peer c.args.datagram.now c.receive-came.result come) in
+    let (few, met_kept, wrote) = c.in-Ok.ensures.done settings state entries kept in
+    datagram_failed settings state here peer c.args.datagram.now hears (met_grows settings c.hears-heard.result peer state) c.args.self.now c.meet.new.self entries few
+    (g.H.Disk.media host) (g.H.Disk.media there) (g.H.Wire.acts host) (g.H.Wire.acts there) met_kept (g.H.Wire.moment there) (g.met.H.Host.one_moment there) wrote
+    (g.H.Disk.media left) (g.H.Wire.acts left) (goes settings here few c.args.datagram.now met_kept come))
+    c.answer.ensures.failed
 
 pub returns-in-Err-clause-failed : goal.returns-in-Err-clause-failed
 returns-in-Err-clause-failed g c = λ settings state entries kept.
     let peer = c.args.peer in
-    let heard = c.decide-decided.result.heard in
-    let said = c.decide-decided.result.decision.verdict in
-    let here = met heard peer state in
     let host = c.args.host.now in
-    let left = c.carry_out.new.host in
-    let of = kept.represents.represents in
-    let does = c.decide-decided.ensures.does settings state of in
-    let heard_so = subst (λ (server : ServerValue). IsKept server settings here entries) (sym c.hear.ensures) (heard_kept heard peer c.args.self.now settings state entries kept) in
-    let (accepted, broke) = c.in-Err.ensures.failed settings here entries heard_so in
-    let (reply, entry, is) = accepted in
-    record {
-      reply = reply;
-      entry = entry;
-      decides = subst (λ v. Decides settings state peer c.args.datagram.now v)
-          (spoken_accepts (number_of settings does.asked state.observers) does.decided reply entry (sym does.does.verdict_is ∙ is)) does.decides;
-      met = here;
-      hears = hears_by _ settings of.settings_are state peer c.args.datagram.now here (c.decide-decided.ensures.hears state);
-      broke = broke_from settings here state (with_entry here entry) refl (journal.Represents c.args.self.now.journal settings entries) (g.H.Disk.media host) (g.H.Disk.media left) (g.H.Wire.acts host) (g.H.Wire.acts left)
-          (subst
-          (λ (j : JournalValue). Broke settings here (with_entry here entry) (journal.Represents j settings entries) (g.H.Disk.media host) (g.H.Disk.media left) (g.H.Wire.acts host) (g.H.Wire.acts left))
-          (ap (λ (server : ServerValue). server.journal) c.hear.ensures)
-          (subst
-          (λ (v : Verdict). Broke settings here (after v here) (journal.Represents c.hear.new.self.journal settings entries) (g.H.Disk.media host) (g.H.Disk.media left) (g.H.Wire.acts host) (g.H.Wire.acts left))
-          is
-          broke));
-      grows = (entry ∷ [], refl);
-    }
-
-pub returns-clause-done : goal.returns-clause-done
-returns-clause-done g c = λ settings state entries kept.
-    let peer = c.args.peer in
-    let heard = c.decide-decided.result.heard in
-    let said = c.decide-decided.result.decision.verdict in
-    let watching = c.decide-decided.result.decision.watching in
-    let here = met heard peer state in
-    let host = c.args.host.now in
-    let between = c.carry_out.new.host in
-    let left = c.notify.new.host in
-    let of = kept.represents.represents in
-    let does = c.decide-decided.ensures.does settings state of in
-    let number = number_of settings does.asked state.observers in
-    let replies = sends_of None said peer in
-    let heard_so = subst (λ (server : ServerValue). IsKept server settings here entries) (sym c.hear.ensures) (heard_kept heard peer c.args.self.now settings state entries kept) in
-    let carried = c.in-Ok.ensures.done settings here entries heard_so in
-    let few = carried.0 in
-    let same_after : after said here ≡ after does.decided here = ap (λ v. after v here) does.does.verdict_is ∙ spoken_after number does.decided here in
-    let after_kept = subst (λ (now : State). IsKept c.carry_out.new.self settings now few) same_after carried.1 in
-    let observed_now =
-    observed_kept c.carry_out.new.self peer watching settings (after does.decided here) few does.asked does.decided replies after_kept
-    (λ lists.
-    subst (λ (os : List ObservedValue). observing settings lists peer does.asked does.decided replies os ≡ changed settings.limits.observers lists peer watching os) (sym (after_observers does.decided here))
-    (does.does.observers lists)) in
-    let from : State = watched settings peer does.asked does.decided replies (after does.decided here) in
-    let told = c.notify.ensures.notified settings from few (subst (λ (server : ServerValue). IsKept server settings from few) (sym c.observe.ensures) observed_now) in
-    let notices = told.0 in
-    let new = told.1 in
-    let history_is : new.history ≡ (after does.decided here).history = told_history settings from new notices told.2 in
-    let time_is : new.time ≡ (after does.decided here).time = told_time settings from new notices told.2 in
-    let grown = verdict_grows does.decided here in
-    record {
-      sends = replies ++ notices;
-      new = new;
-      few = few;
-      answers = record {
-        decided = does.decided;
-        decides = does.decides;
-        met = here;
-        hears = hears_by _ settings of.settings_are state peer c.args.datagram.now here (c.decide-decided.ensures.hears state);
-        asked = does.asked;
-        watches = does.watches;
-        replies = replies;
-        replies_are = ap (λ v. sends_of None v peer) does.does.verdict_is ∙ sym (spoken_sends number does.decided peer);
-        notices = notices;
-        notified = told.2;
-        sends_are = refl;
-      };
-      kept = told.3;
-      turned = turned_from settings here state new refl (journal.Represents c.args.self.now.journal settings entries) (g.H.Disk.media host) (g.H.Disk.media left) (g.H.Wire.acts host) (g.H.Wire.acts left) (replies ++ notices)
-          (journal.Represents c.notify.new.self.journal settings few)
-          (told_behind settings here (after does.decided here) new replies notices (journal.Represents c.args.self.now.journal settings entries) (journal.Represents c.notify.new.self.journal settings few) (g.H.Disk.media host)
-          (g.H.Disk.media between) (g.H.Disk.media left) (g.H.Wire.moment between) (g.H.Wire.moment left) (g.H.Wire.acts host) (g.H.Wire.acts between) (g.H.Wire.acts left)
-          (subst
-          (λ (now : State). TurnedTo (g.H.Wire.moment between) settings here now replies (journal.Represents c.args.self.now.journal settings entries) (journal.Represents c.notify.new.self.journal settings few) (g.H.Disk.media host)
-          (g.H.Disk.media between) (g.H.Wire.acts host) (g.H.Wire.acts between))
-          same_after
-          (subst
-          (λ (j : JournalValue). TurnedTo (g.H.Wire.moment between) settings here (after said here) replies (journal.Represents j settings entries) (journal.Represents c.notify.new.self.journal settings few) (g.H.Disk.media host)
-          (g.H.Disk.media between) (g.H.Wire.acts host) (g.H.Wire.acts between))
-          (ap (λ (server : ServerValue). server.journal) c.hear.ensures)
-          (subst
-          (λ (j : JournalValue). TurnedTo (g.H.Wire.moment between) settings here (after said here) replies (journal.Represents c.hear.new.self.journal settings entries) (journal.Represents j settings few) (g.H.Disk.media host)
-          (g.H.Disk.media between) (g.H.Wire.acts host) (g.H.Wire.acts between))
-          (sym (c.notify.ensures.journal ∙ ap (λ (server : ServerValue). server.journal) c.observe.ensures))
-          carried.2)))
-          history_is time_is told.4 c.notify.ensures.media);
-      grows = (grown.0, history_is ∙ grown.1);
-    }
-
-pub returns-clause-observers : goal.returns-clause-observers
-returns-clause-observers g c = c.notify.ensures.known
-
-pub returns-clause-all : goal.returns-clause-all
-returns-clause-all g c = c.notify.ensures.all
+    let left = c.meet.new.host in
+    let here = met settings c.hears-heard.result peer state in
+    let come = subst (λ s. IsCome s peer c.args.datagram.now c.receive-came.result) kept.represents.represents.settings_are c.receive-came.ensures in
+    let hears = subst (λ heard. Hears settings state peer c.args.datagram.now (met settings heard peer state)) (sym c.hears-heard.ensures) (came_heard settings state peer c.args.datagram.now c.receive-came.result come) in
+    let (adds, broke) = c.in-Err.ensures.failed settings state entries kept in
+    meeting_failed settings state here peer c.args.datagram.now hears (met_grows settings c.hears-heard.result peer state) c.args.self.now c.meet.new.self entries entries
+    (g.H.Disk.media host) (g.H.Disk.media left) (g.H.Wire.acts host) (g.H.Wire.acts left) adds broke
