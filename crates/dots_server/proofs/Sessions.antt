@@ -284,7 +284,7 @@ agrees server settings state represents peer beat says =
     ∙ ap (λ s. beating_at s (time_of server.registry) state.history peer) represents.settings_are
     ∙ ap (λ t. beating_at settings t state.history peer) represents.time_is
 
--- the sessions that are lost were forgotten, and the heartbeats that were due were sent
+-- the heartbeats that were due were sent
 module _ (old : ServerValue) (now : ℕ) (rows : List PeerContact) (time_is : now ≡ time_of old.registry)
     (left : (by : Beating) → Agrees (SaysBeat old.settings old.registry) by → rows ≡ after_beats by now old.watch.sessions) where
   abbrev with_rows : ServerValue

@@ -73,7 +73,6 @@ impl Server {
         requires { IsOwn self.now.settings peer own }
         ensures { IsCome self.now.settings peer datagram.now result }
     {
-        let _ = peer;
         match receive(self.alloc, datagram, own.is_none()) {
             Ok(received) => Came::Received { own, received },
             Err(exchange) => Came::Lacking(exchange),

@@ -337,7 +337,7 @@ impl Server {
         }
     }
 
-    /// Forgets the sessions that are lost, and sends the heartbeats that are due (RFC 9132, section 4.7).
+    /// Sends the heartbeats that are due (RFC 9132, section 4.7). No session is forgotten.
     fn send_heartbeats<H: Host>(&mut self, host: &mut H)
         ensures sent { (settings : SettingsValue) (state : State) → Represents self.old settings state
             → Added (H.acts host.old) (H.acts host.new) (SentTo (H.moment host.old) (H.moment host.new) (beats (beating settings state) state.time state.contacts)) }
