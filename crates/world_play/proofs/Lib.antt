@@ -1,0 +1,9 @@
+pub mod Sends
+pub mod Packets
+pub mod Blank
+pub mod Gateways
+pub mod Draining
+pub mod Asks
+pub mod Servers
+pub mod Handed
+pub mod Routes

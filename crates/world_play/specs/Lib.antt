@@ -1,0 +1,6 @@
+pub mod Calls
+pub mod Parties
+pub mod Packets
+pub mod Passing
+pub mod Serving
+pub mod Clients
