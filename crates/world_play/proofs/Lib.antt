@@ -7,3 +7,4 @@ pub mod Asks
 pub mod Servers
 pub mod Handed
 pub mod Routes
+pub mod Leading

@@ -14,10 +14,12 @@ use Rattle.dots_world.specs.declared.party.Party.TheVariants.{Client as a_client
 use Rattle.dots_world.specs.declared.party.Packet.{Packet}
 use Rattle.dots_world.specs.declared.plan.PlanClient.{PlanClient}
 use Rattle.dots_world.specs.Plans.{is_direct, is_behind}
+use Rattle.dots_world.specs.Worlds.{answers_to}
 use Rattle.world_play.specs.declared.parties.Parties.{Parties}
-use Rattle.world_play.specs.Clients.{AllHanded}
+use Rattle.world_play.specs.Clients.{AllHanded, ReceivedAt}
 use Rattle.world_play.specs.Parties.{upstream_for}
 use Rattle.world_play.specs.Packets.{packet_sent, packets_in, packet_of, Reaches, IsRoutable, AreRouted, IsInner}
+use Rattle.world_play.specs.Playing.{PlayedValue, IsSound}
 
 pub all_then : (P : Packet → Type 0) (xs ys : List Packet) → AllByRecursion P xs → AllByRecursion P ys → AllByRecursion P (xs ++ ys)
 all_then P [] ys a b = b
@@ -92,3 +94,18 @@ handed_routed parties now (place ∷ places) clients new packets packets_now all
     let (c, planned, between, posted, out, rest) = all in
     handed_routed parties now places between new posted packets_now rest
     (messages_routed parties place c.behind out.messages packets posted (slice_get_within parties.clients place c planned) out.posted routed)
+
+pub received_routed : (parties : Parties) (place : ℕ) (behind : Bool) (bytes : List ℕ) (now : ℕ) (clients new : List ClientValue) (packets packets_now : List Packet) → place < length parties.clients
+    → ReceivedAt clients place behind bytes now new packets packets_now → AreRouted parties packets packets_now
+received_routed parties place behind bytes now clients new packets packets_now less got = messages_routed parties place behind (answers_to got.said) packets packets_now less got.posted
+
+pub sound_changed : (played : PlayedValue) (new : List ClientValue) (packets : List Packet) → IsSound played → length new ≡ length played.clients → AreRouted played.parties played.packets packets
+    → IsSound (record played { clients = new; packets = packets })
+sound_changed played new packets sound lengths routed = record {
+  few = sound.few;
+  early = sound.early;
+  server = sound.server;
+  gateway = sound.gateway;
+  clients = lengths ∙ sound.clients;
+  packets = routed sound.packets;
+}

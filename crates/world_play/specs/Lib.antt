@@ -4,3 +4,4 @@ pub mod Packets
 pub mod Passing
 pub mod Serving
 pub mod Clients
+pub mod Playing

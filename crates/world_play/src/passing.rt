@@ -74,6 +74,9 @@ impl GatewaySide {
         }
     }
 
+    /// Lets all of it go.
+    pub fn let_go(self) {}
+
     /// The gateway takes a datagram of a peer. What it sends is put behind the packets.
     pub fn pass(
         &mut self,

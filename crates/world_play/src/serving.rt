@@ -71,6 +71,11 @@ impl ServerSide {
         }
     }
 
+    /// Lets all of it go.
+    pub fn let_go(self) {
+        self.server.let_go();
+    }
+
     /// The server takes an event, its bytes in the room. What it sends is put behind the packets.
     pub fn serve(
         &mut self,
