@@ -32,7 +32,7 @@ pub fn sole(value: &Value) -> Option<&Value> {
 fn items<T>(member: Option<&Value>, read: impl Fn(&Value) -> Option<T>) -> Option<Vec<T>> {
     let Some(value) = member else { return Some(vec![]) };
     let items = value.as_array()?;
-    if items.len() > 16 {
+    if items.len() > 32 {
         return None;
     }
     items.iter().map(read).collect()

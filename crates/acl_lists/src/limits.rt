@@ -2,7 +2,7 @@
 //! and stand here alone.
 
 /// The most target prefixes, port ranges and protocols, each, of a scope or an alias.
-pub const MAX_ITEMS: usize = 16;
+pub const MAX_ITEMS: usize = 32;
 
 /// The most host names, and the most alias names, of a scope or an alias.
 pub const MAX_NAMES: usize = 8;
@@ -11,7 +11,7 @@ pub const MAX_NAMES: usize = 8;
 pub const MAX_TARGETS: usize = 9;
 
 /// The most prefixes that the targets of a mitigation have together.
-pub const MAX_RESOLVED: usize = 64;
+pub const MAX_RESOLVED: usize = 128;
 
 /// The most entries of an access list.
-pub const MAX_ACES: usize = 32;
+pub const MAX_ACES: usize = 64;

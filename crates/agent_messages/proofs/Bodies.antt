@@ -23,6 +23,7 @@ use Rattle.reply_bodies.specs.Mitigations.{prefix_tree, range_tree, asked_fields
 use Rattle.reply_bodies.specs.Requests.{request_tree}
 use Rattle.agent_messages.specs.Asked.{CanAsk, IsRange}
 use Rattle.agent_messages.specs.Grants.{IsGranted}
+use Rattle.acl_lists.specs.declared.limits.TheConstants.{MAX_ITEMS, MAX_NAMES}
 
 -- ---- arrays
 
@@ -94,38 +95,38 @@ module _ (gateway : Bool) where
   said prefixes ports protocols names aliases lifetime =
       record { asked = record { prefixes = prefixes; ports = ports; protocols = protocols; names = names; aliases = aliases }; lifetime = lifetime; trigger = true }
 
-  read_prefixes : (ps : List PrefixValue) (rest : Rest) → length ps ≤ 16 → AllByRecursion IsPrefix ps → reading nothing_asked (listed 6 (map prefix_tree ps) ++ rest) ≡ reading (said ps [] [] [] [] None) rest
+  read_prefixes : (ps : List PrefixValue) (rest : Rest) → length ps ≤ MAX_ITEMS → AllByRecursion IsPrefix ps → reading nothing_asked (listed 6 (map prefix_tree ps) ++ rest) ≡ reading (said ps [] [] [] [] None) rest
   read_prefixes [] rest few all = refl
   read_prefixes (p ∷ ps) rest few all =
-      ap (λ r. (r >>= λ x. Ok (said x [] [] [] [] None)) >>= λ more. reading more rest) (array_back 6 16 prefix_of prefix_tree (p ∷ ps) few (prefixes_back (p ∷ ps) all))
+      ap (λ r. (r >>= λ x. Ok (said x [] [] [] [] None)) >>= λ more. reading more rest) (array_back 6 MAX_ITEMS prefix_of prefix_tree (p ∷ ps) few (prefixes_back (p ∷ ps) all))
 
   module _ (prefixes : List PrefixValue) where
-    read_ports : (ps : List Ports) (rest : Rest) → length ps ≤ 16 → AllByRecursion IsRange ps
+    read_ports : (ps : List Ports) (rest : Rest) → length ps ≤ MAX_ITEMS → AllByRecursion IsRange ps
         → reading (said prefixes [] [] [] [] None) (listed 7 (map range_tree ps) ++ rest) ≡ reading (said prefixes ps [] [] [] None) rest
     read_ports [] rest few all = refl
     read_ports (p ∷ ps) rest few all =
-        ap (λ r. (r >>= λ x. Ok (said prefixes x [] [] [] None)) >>= λ more. reading more rest) (array_back 7 16 range_of range_tree (p ∷ ps) few (ports_back (p ∷ ps) all))
+        ap (λ r. (r >>= λ x. Ok (said prefixes x [] [] [] None)) >>= λ more. reading more rest) (array_back 7 MAX_ITEMS range_of range_tree (p ∷ ps) few (ports_back (p ∷ ps) all))
 
     module _ (ports : List Ports) where
-      read_protocols : (ns : List ℕ) (rest : Rest) → length ns ≤ 16 → AllByRecursion (λ (n : ℕ). n < 256) ns
+      read_protocols : (ns : List ℕ) (rest : Rest) → length ns ≤ MAX_ITEMS → AllByRecursion (λ (n : ℕ). n < 256) ns
           → reading (said prefixes ports [] [] [] None) (listed 10 (map unsigned ns) ++ rest) ≡ reading (said prefixes ports ns [] [] None) rest
       read_protocols [] rest few all = refl
       read_protocols (n ∷ ns) rest few all =
-          ap (λ r. (r >>= λ x. Ok (said prefixes ports x [] [] None)) >>= λ more. reading more rest) (array_back 10 16 protocol_of unsigned (n ∷ ns) few (protocols_back (n ∷ ns) all))
+          ap (λ r. (r >>= λ x. Ok (said prefixes ports x [] [] None)) >>= λ more. reading more rest) (array_back 10 MAX_ITEMS protocol_of unsigned (n ∷ ns) few (protocols_back (n ∷ ns) all))
 
       module _ (protocols : List ℕ) where
-        read_names : (ns : List (List ℕ)) (rest : Rest) → length ns ≤ 8 → AllByRecursion (λ (name : List ℕ). IsTrue (is_name name)) ns
+        read_names : (ns : List (List ℕ)) (rest : Rest) → length ns ≤ MAX_NAMES → AllByRecursion (λ (name : List ℕ). IsTrue (is_name name)) ns
             → reading (said prefixes ports protocols [] [] None) (listed 11 (map text ns) ++ rest) ≡ reading (said prefixes ports protocols ns [] None) rest
         read_names [] rest few all = refl
         read_names (n ∷ ns) rest few all =
-            ap (λ r. (r >>= λ x. Ok (said prefixes ports protocols x [] None)) >>= λ more. reading more rest) (array_back 11 8 (name_of 11) text (n ∷ ns) few (names_back 11 (n ∷ ns) all))
+            ap (λ r. (r >>= λ x. Ok (said prefixes ports protocols x [] None)) >>= λ more. reading more rest) (array_back 11 MAX_NAMES (name_of 11) text (n ∷ ns) few (names_back 11 (n ∷ ns) all))
 
         module _ (names : List (List ℕ)) where
-          read_aliases : (ns : List (List ℕ)) (rest : Rest) → length ns ≤ 8 → AllByRecursion (λ (name : List ℕ). IsTrue (is_name name)) ns
+          read_aliases : (ns : List (List ℕ)) (rest : Rest) → length ns ≤ MAX_NAMES → AllByRecursion (λ (name : List ℕ). IsTrue (is_name name)) ns
               → reading (said prefixes ports protocols names [] None) (listed 13 (map text ns) ++ rest) ≡ reading (said prefixes ports protocols names ns None) rest
           read_aliases [] rest few all = refl
           read_aliases (n ∷ ns) rest few all =
-              ap (λ r. (r >>= λ x. Ok (said prefixes ports protocols names x None)) >>= λ more. reading more rest) (array_back 13 8 (name_of 13) text (n ∷ ns) few (names_back 13 (n ∷ ns) all))
+              ap (λ r. (r >>= λ x. Ok (said prefixes ports protocols names x None)) >>= λ more. reading more rest) (array_back 13 MAX_NAMES (name_of 13) text (n ∷ ns) few (names_back 13 (n ∷ ns) all))
 
   -- all keys are numbers
   listed_unsigned : (key : ℕ) (ts : List Tree) (rest : Rest) → all_unsigned (pairs_of rest) ≡ true → all_unsigned (pairs_of (listed key ts ++ rest)) ≡ true

@@ -14,6 +14,7 @@ use Rattle.dots_client.specs.declared.ask.Ask.{Ask}
 use Rattle.dots_client.specs.declared.ask.Ask.TheVariants as ask
 use Rattle.ask_settings.specs.declared.line.Line.{Line}
 use Rattle.ask_settings.specs.declared.line.Line.TheVariants as said
+use Rattle.acl_lists.specs.declared.limits.TheConstants.{MAX_ITEMS}
 
 -- ---- fields
 
@@ -31,12 +32,12 @@ all_some [] = Some []
 all_some (None ∷ xs) = None
 all_some (Some x ∷ xs) = option_map (λ later. x ∷ later) (all_some xs)
 
--- 1 to 16 prefixes with commas between them
+-- 1 to 32 prefixes with commas between them
 abbrev pub parts_of : List ℕ → List (List ℕ)
 parts_of text = slice_split (λ byte. byte == 44) text
 
 abbrev pub prefixes_in : List ℕ → Option (List PrefixValue)
-prefixes_in text = if nat_le (length (parts_of text)) 16 then all_some (map prefix_in (parts_of text)) else None
+prefixes_in text = if nat_le (length (parts_of text)) MAX_ITEMS then all_some (map prefix_in (parts_of text)) else None
 
 -- 1 to 4,096 bytes in hexadecimal
 abbrev pub few_of : Result (List ℕ) FromHexError → Option (List ℕ)

@@ -66,7 +66,7 @@ pub fn cuid_in(digits: &[u8]) -> Option<[u8; 22]>
     Some(cuid_of(&key[..size]))
 }
 
-/// The prefixes between commas, where there are at most 16.
+/// The prefixes between commas, where there are at most 32.
 pub fn prefixes_in(alloc: Global, text: &[u8]) -> Result<Option<PrefixList>, NoMemory>
     ensures { IfOk result (λ prefixes. prefixes ≡ prefixes_in text.now) }
 {

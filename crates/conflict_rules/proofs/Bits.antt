@@ -42,10 +42,10 @@ bit_more test x xs place index marks mark all below is marked so_far =
     omega (arith, now, split, later, marked)
 
 -- what is marked from a place on fits below the last place
-pub bits_fit : (place : ℕ) (bs : List Bool) → place + length bs ≤ 64 → 2 ^ place * bits bs < 2 ^ 64
+pub bits_fit : (place : ℕ) (bs : List Bool) → place + length bs ≤ 128 → 2 ^ place * bits bs < 2 ^ 128
 bits_fit place bs room =
     let below : bits bs * 2 ^ place < 2 ^ (length bs + place) = shl_below (bits bs) (length bs) place (bits_below bs) in
-    let within : 2 ^ (length bs + place) ≤ 2 ^ 64 = pow-le-pow_right {n = 2} (omega arith) (let m : length bs + place ≤ 64 = omega (arith, room) in m) in
+    let within : 2 ^ (length bs + place) ≤ 2 ^ 128 = pow-le-pow_right {n = 2} (omega arith) (let m : length bs + place ≤ 128 = omega (arith, room) in m) in
     omega (arith, below, within, mul_comm (2 ^ place) (bits bs))
 
 -- the bits of a list behind those of another

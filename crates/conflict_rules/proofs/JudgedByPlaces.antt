@@ -34,6 +34,7 @@ use Rattle.conflict_rules.specs.Judgements.{IsTaken, HasMid, AreTargets, Meets, 
 use Rattle.conflict_rules.proofs.LivePlaces.{one_number}
 use Rattle.conflict_rules.proofs.HeldPlaces.{unknown_there, there_unknown, are_targets, targets_are}
 use Rattle.conflict_rules.proofs.Rules.{found_some, collides_taken, taken_collides, mid_there, there_mid, one_of_mid, in_higher, higher_in, higher_mids, those_meet, meet_those, number_staying, number_own, greatest_in, greatest_none, in_greatest, contested_by, none_pass, some_pass}
+use Rattle.acl_lists.specs.declared.limits.TheConstants.{MAX_RESOLVED}
 
 module _ (settings : SettingsValue) (t : ℕ) (entries : List Entry) (domain : ℕ) (request : Request) where
   abbrev client : Client
@@ -93,19 +94,19 @@ module _ (settings : SettingsValue) (t : ℕ) (entries : List Entry) (domain : �
   by_known is =
       cond-false (list_any (is_unknown aliases) request.asked.aliases) (Err faults.UnknownAlias) (of_targets (targets_of settings aliases request.asked)) is
 
-  by_few : (targets : List Target) → nat_le (prefix_count targets) 64 ≡ true
+  by_few : (targets : List Target) → nat_le (prefix_count targets) MAX_RESOLVED ≡ true
       → of_targets targets ≡ unopposed targets (judge_by (highest_mid lives request.cuid (wants targets)) (others targets))
   by_few targets is =
       cond-true
-      (nat_le (prefix_count targets) 64)
+      (nat_le (prefix_count targets) MAX_RESOLVED)
       (unopposed targets (judge_by (highest_mid lives request.cuid (wants targets)) (others targets)))
       (Err faults.TooMany)
       is
 
-  by_many : (targets : List Target) → nat_le (prefix_count targets) 64 ≡ false → of_targets targets ≡ Err faults.TooMany
+  by_many : (targets : List Target) → nat_le (prefix_count targets) MAX_RESOLVED ≡ false → of_targets targets ≡ Err faults.TooMany
   by_many targets is =
       cond-false
-      (nat_le (prefix_count targets) 64)
+      (nat_le (prefix_count targets) MAX_RESOLVED)
       (unopposed targets (judge_by (highest_mid lives request.cuid (wants targets)) (others targets)))
       (Err faults.TooMany)
       is
@@ -256,7 +257,7 @@ module _ (settings : SettingsValue) (t : ℕ) (entries : List Entry) (domain : �
     to_targets : list_any (is_unknown aliases) request.asked.aliases ≡ false → result ≡ of_targets (targets_of settings aliases request.asked) → Judges result
     to_targets names is =
         let targets = targets_of settings aliases request.asked in
-        elim (cases_Bool (nat_le (prefix_count (targets_of settings aliases request.asked)) 64)) [
+        elim (cases_Bool (nat_le (prefix_count (targets_of settings aliases request.asked)) MAX_RESOLVED)) [
           | inl few ↦
               to_highest
               targets
@@ -264,7 +265,7 @@ module _ (settings : SettingsValue) (t : ℕ) (entries : List Entry) (domain : �
                 free = free;
                 unused = unused;
                 are = are_targets entries client settings request.asked names;
-                few = leb-true (prefix_count targets) 64 few;
+                few = leb-true (prefix_count targets) MAX_RESOLVED few;
               })
               result
               (highest_mid lives request.cuid (wants targets))
@@ -276,7 +277,7 @@ module _ (settings : SettingsValue) (t : ℕ) (entries : List Entry) (domain : �
               free
               unused
               (are_targets entries client settings request.asked names)
-              (leb-false (prefix_count targets) 64 many)
+              (leb-false (prefix_count targets) MAX_RESOLVED many)
               (is ∙ by_many targets many)
         ]
 
@@ -334,7 +335,7 @@ module _ (settings : SettingsValue) (t : ℕ) (entries : List Entry) (domain : �
   from_few : (targets : List Target) → IsNew settings t entries client request targets
       → judged ≡ unopposed targets (judge_by (highest_mid lives request.cuid (wants targets)) (others targets))
   from_few targets new =
-      from_targets targets new.free new.unused new.are ∙ by_few targets (le-leb (prefix_count targets) 64 new.few)
+      from_targets targets new.free new.unused new.are ∙ by_few targets (le-leb (prefix_count targets) MAX_RESOLVED new.few)
 
   from_highest : (targets : List Target) → IsHighest settings t entries client request targets → judged ≡ unopposed targets (others targets)
   from_highest targets highest = from_few targets highest.is_new ∙ by_highest targets None (by_one (highest_mid lives request.cuid (wants targets)) refl)
@@ -396,7 +397,7 @@ module _ (settings : SettingsValue) (t : ℕ) (entries : List Entry) (domain : �
   places_judge result (unknown free unused has is) =
       from_new free unused ∙ by_unknown (there_unknown entries client request.asked.aliases has) ∙ sym is
   places_judge result (too_many targets free unused are many is) =
-      from_targets targets free unused are ∙ by_many targets (less_not (prefix_count targets) 64 many) ∙ sym is
+      from_targets targets free unused are ∙ by_many targets (less_not (prefix_count targets) MAX_RESOLVED many) ∙ sym is
   places_judge result (higher targets mid new has most is) =
       from_few targets new
       ∙ by_highest

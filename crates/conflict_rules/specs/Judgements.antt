@@ -150,7 +150,7 @@ Number Has i (suc places) n =
 -- ---- the judgement
 
 -- The name is the peer's to use, no mitigation of the mid stands, the client holds each alias, and the targets, which are
--- these, have at most 64 prefixes.
+-- these, have at most 128 prefixes.
 pub record IsNew (settings : SettingsValue) (t : ℕ) (entries : List Entry) (client : Client) (request : Request) (targets : List Target) : Type 0 where
   pub free : IsTaken t entries client request.peer → ⊥
   pub unused : (put : Put) → HasMid t entries client request.mid put → ⊥

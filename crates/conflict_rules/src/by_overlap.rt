@@ -23,7 +23,7 @@ pub enum Judgement {
     Higher { mid: u32 },
     /// A standing mitigation of another client overlaps. Bit i is set exactly where the resolved prefix i, of those of
     /// the targets in order, meets such a mitigation.
-    Other { meeting: u64 },
+    Other { meeting: u128 },
     /// As many live mitigations as may be would stay beside it, of the client or of the domain; this is their number.
     Full { which: Which, number: u64 },
     /// Nothing stands against it.
@@ -37,7 +37,7 @@ pub enum Which {
     Domain,
 }
 
-/// Whether the targets have at most 64 prefixes together, as [`judge_overlap`] wants it.
+/// Whether the targets have at most 128 prefixes together, as [`judge_overlap`] wants it.
 pub fn are_few(targets: &TargetList) -> bool
     ensures { result ≡ nat_le (prefix_count targets.now) MAX_RESOLVED }
 {
@@ -48,7 +48,7 @@ pub fn are_few(targets: &TargetList) -> bool
 /// overlaps with a standing one of its client that has the same trigger value and a higher mid, or with one of another
 /// client, and whether there is room, for the client and then for the domain, beside those that it wouldn't end (RFC
 /// 9132, section 4.4.1). `trigger` says whether it filters at once, and not only while the client's signal is lost. The
-/// first of these that applies is answered. The targets have at most 64 prefixes together.
+/// first of these that applies is answered. The targets have at most 128 prefixes together.
 pub fn judge_overlap<T: Mitigates>(
     live: &[T],
     cuid: &[u8],

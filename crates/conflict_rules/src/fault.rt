@@ -11,7 +11,7 @@ pub enum PutFault {
     Changed,
     /// The client holds no alias of an asked name.
     UnknownAlias,
-    /// The targets have more than 64 prefixes together.
+    /// The targets have more than 128 prefixes together.
     TooMany,
     /// A standing mitigation of the client with the same trigger value overlaps and has a higher mid; this is the highest
     /// such mid.

@@ -114,7 +114,7 @@ fn judge_new<T: Mitigates>(
     judge_targets(alloc, settings, live, targets, time, request)
 }
 
-/// Judges a new mitigation of these targets, which have at most 64 prefixes together.
+/// Judges a new mitigation of these targets, which have at most 128 prefixes together.
 #[tactic(auto, using(crate::proofs::TakingMemory::targets_take))]
 fn judge_targets<T: Mitigates>(
     alloc: Global,

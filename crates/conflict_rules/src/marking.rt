@@ -12,7 +12,7 @@ use ip_scope::Prefix;
 use std::alloc::Global;
 
 /// Those of the resolved prefixes, in order, whose bit is set: bit i is that of the prefix i.
-pub fn marked(alloc: Global, targets: &[Target], bits: u64) -> Result<PrefixList, NoMemory>
+pub fn marked(alloc: Global, targets: &[Target], bits: u128) -> Result<PrefixList, NoMemory>
     ensures { IfOk result (λ prefixes. prefixes ≡ marked (resolved targets.now) bits) }
 {
     let prefixes = resolved(alloc, targets)?;
@@ -30,7 +30,7 @@ fn resolved(alloc: Global, targets: &[Target]) -> Result<PrefixList, NoMemory>
     Ok(prefixes)
 }
 
-fn keep_marked(alloc: Global, prefixes: &[Prefix], bits: u64) -> Result<PrefixList, NoMemory>
+fn keep_marked(alloc: Global, prefixes: &[Prefix], bits: u128) -> Result<PrefixList, NoMemory>
     ensures { IfOk result (λ kept. kept ≡ marked prefixes.now bits) }
 {
     let mut kept = List::new(alloc);

@@ -10,7 +10,7 @@ use dots_history::{Target, meets_some};
 use ip_scope::Prefix;
 
 /// The number whose bit i is set exactly where the resolved prefix i meets a standing mitigation of another client.
-pub(crate) fn meeting<T: Mitigates>(live: &[T], cuid: &[u8], targets: &[Target]) -> u64
+pub(crate) fn meeting<T: Mitigates>(live: &[T], cuid: &[u8], targets: &[Target]) -> u128
     requires { prefix_count targets.now ≤ MAX_RESOLVED }
     ensures { result ≡ meeting (map T.live live.now) cuid.now targets.now }
 {
@@ -25,8 +25,8 @@ pub(crate) fn meeting<T: Mitigates>(live: &[T], cuid: &[u8], targets: &[Target])
 }
 
 /// The bits of these prefixes, of which the first has this place.
-fn marks<T: Mitigates>(live: &[T], cuid: &[u8], prefixes: &[Prefix], place: usize) -> u64
-    requires { place + length prefixes.now ≤ 64 }
+fn marks<T: Mitigates>(live: &[T], cuid: &[u8], prefixes: &[Prefix], place: usize) -> u128
+    requires { place + length prefixes.now ≤ 128 }
     ensures { result ≡ 2 ^ place * bits (map (meets_another (map T.live live.now) cuid.now) prefixes.now) }
 {
     let mut marks = 0;
@@ -37,11 +37,11 @@ fn marks<T: Mitigates>(live: &[T], cuid: &[u8], prefixes: &[Prefix], place: usiz
 }
 
 /// The bit of this place, where it is set.
-fn bit(place: usize, is_set: bool) -> u64
-    requires { place < 64 }
+fn bit(place: usize, is_set: bool) -> u128
+    requires { place < 128 }
     ensures { result ≡ 2 ^ place * (if is_set then 1 else 0) }
 {
-    u64::from(is_set) << place
+    u128::from(is_set) << place
 }
 
 fn meets_another<T: Mitigates>(live: &[T], cuid: &[u8], prefix: &Prefix) -> bool

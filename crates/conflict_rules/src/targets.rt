@@ -31,7 +31,7 @@ pub fn targets_of(
     Ok(targets)
 }
 
-/// Whether the targets of what is asked have at most 64 prefixes together. None of them is made for it, and it takes no memory.
+/// Whether the targets of what is asked have at most 128 prefixes together. None of them is made for it, and it takes no memory.
 #[tactic(auto, using(crate::proofs::Rooms::whole_count))]
 pub fn come_to_few(settings: &Settings, aliases: &[Alias], asked: &Asked) -> bool
     ensures { result ≡ nat_le (prefix_count (targets_of settings.now aliases.now asked.now)) MAX_RESOLVED }

@@ -12,7 +12,7 @@ use Rattle.dots_history.specs.declared.config.Values.{Values}
 use Rattle.dots_history.specs.declared.change.Change.{Change}
 use Rattle.dots_history.specs.declared.change.Change.TheVariants as change
 
--- at most 16 prefixes, port ranges and protocols each, and 8 host names and alias names each
+-- at most 32 prefixes, port ranges and protocols each, and 8 host names and alias names each
 abbrev pub asked_within : Asked → Bool
 asked_within asked =
     nat_le (length asked.prefixes) MAX_ITEMS
@@ -33,7 +33,7 @@ abbrev pub prefix_count : List Target → ℕ
 prefix_count [] = 0
 prefix_count (target ∷ targets) = length target.prefixes + prefix_count targets
 
--- at most 9 targets, with at most 64 prefixes together
+-- at most 9 targets, with at most 128 prefixes together
 abbrev pub put_within : Put → Bool
 put_within put =
     asked_within put.asked

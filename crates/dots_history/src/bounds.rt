@@ -61,7 +61,7 @@ fn are_targets_within(targets: &[Target]) -> bool
     targets.iter().all(|target| is_target_within(target))
 }
 
-/// Whether the targets have at most 64 prefixes together, the resolved prefixes of one mitigation.
+/// Whether the targets have at most 128 prefixes together, the resolved prefixes of one mitigation.
 pub fn are_few(targets: &[Target]) -> bool
     ensures { result ≡ nat_le (prefix_count targets.now) MAX_RESOLVED }
 {

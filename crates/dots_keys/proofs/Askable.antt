@@ -34,6 +34,7 @@ use Rattle.dots_heads.specs.Operations.{Operation, put_mitigation, get_mitigatio
 use Rattle.dots_heads.specs.Options.{first_critical, value_of, values_of}
 use Rattle.dots_heads.specs.Paths.{Resource, mitigation, config, heartbeat, resource_at}
 use Rattle.dots_heads.specs.Results.{◌>>=◌, invalid, missing, UnlessNoMemory}
+use Rattle.acl_lists.specs.declared.limits.TheConstants.{MAX_ITEMS, MAX_NAMES}
 
 -- ---- what a reading gives
 
@@ -112,15 +113,15 @@ record Says (said : Scope) : Type 0 where
   lifetime : IfSome said.lifetime IsLifetime
 
 take_ok : (gateway : Bool) (key : Option ScopeKey) (said : Scope) (n : ℕ) (tree : Tree) → Says said → IfOk (take_target gateway key said n tree) Says
-take_ok gateway (Some scope_key.Prefixes) said n tree is = fact_then_ok (array_under 6 16 prefix_of tree) _ (λ values. length values ≤ 16) Says (array_ok 6 16 prefix_of tree)
+take_ok gateway (Some scope_key.Prefixes) said n tree is = fact_then_ok (array_under 6 MAX_ITEMS prefix_of tree) _ (λ values. length values ≤ MAX_ITEMS) Says (array_ok 6 MAX_ITEMS prefix_of tree)
     (λ values few. record { few = record { prefixes = few; ports = is.few.ports; protocols = is.few.protocols; names = is.few.names; aliases = is.few.aliases }; lifetime = is.lifetime })
-take_ok gateway (Some scope_key.Ports) said n tree is = fact_then_ok (array_under 7 16 range_of tree) _ (λ values. length values ≤ 16) Says (array_ok 7 16 range_of tree)
+take_ok gateway (Some scope_key.Ports) said n tree is = fact_then_ok (array_under 7 MAX_ITEMS range_of tree) _ (λ values. length values ≤ MAX_ITEMS) Says (array_ok 7 MAX_ITEMS range_of tree)
     (λ values few. record { few = record { prefixes = is.few.prefixes; ports = few; protocols = is.few.protocols; names = is.few.names; aliases = is.few.aliases }; lifetime = is.lifetime })
-take_ok gateway (Some scope_key.Protocols) said n tree is = fact_then_ok (array_under 10 16 protocol_of tree) _ (λ values. length values ≤ 16) Says (array_ok 10 16 protocol_of tree)
+take_ok gateway (Some scope_key.Protocols) said n tree is = fact_then_ok (array_under 10 MAX_ITEMS protocol_of tree) _ (λ values. length values ≤ MAX_ITEMS) Says (array_ok 10 MAX_ITEMS protocol_of tree)
     (λ values few. record { few = record { prefixes = is.few.prefixes; ports = is.few.ports; protocols = few; names = is.few.names; aliases = is.few.aliases }; lifetime = is.lifetime })
-take_ok gateway (Some scope_key.Names) said n tree is = fact_then_ok (array_under 11 8 (name_of 11) tree) _ (λ values. length values ≤ 8) Says (array_ok 11 8 (name_of 11) tree)
+take_ok gateway (Some scope_key.Names) said n tree is = fact_then_ok (array_under 11 MAX_NAMES (name_of 11) tree) _ (λ values. length values ≤ MAX_NAMES) Says (array_ok 11 MAX_NAMES (name_of 11) tree)
     (λ values few. record { few = record { prefixes = is.few.prefixes; ports = is.few.ports; protocols = is.few.protocols; names = few; aliases = is.few.aliases }; lifetime = is.lifetime })
-take_ok gateway (Some scope_key.Aliases) said n tree is = fact_then_ok (array_under 13 8 (name_of 13) tree) _ (λ values. length values ≤ 8) Says (array_ok 13 8 (name_of 13) tree)
+take_ok gateway (Some scope_key.Aliases) said n tree is = fact_then_ok (array_under 13 MAX_NAMES (name_of 13) tree) _ (λ values. length values ≤ MAX_NAMES) Says (array_ok 13 MAX_NAMES (name_of 13) tree)
     (λ values few. record { few = record { prefixes = is.few.prefixes; ports = is.few.ports; protocols = is.few.protocols; names = is.few.names; aliases = few }; lifetime = is.lifetime })
 take_ok gateway (Some scope_key.Lifetime) said n tree is = fact_then_ok (lifetime_of tree) _ IsLifetime Says (lifetime_ok tree) (λ lifetime one. record { few = is.few; lifetime = one })
 take_ok gateway (Some scope_key.Trigger) said n tree is = then_ok (trigger_of gateway tree) _ Says (λ trigger. record { few = is.few; lifetime = is.lifetime })

@@ -29,6 +29,7 @@ use Rattle.dots_keys.specs.Mitigations.{array_under, prefix_of, range_of, protoc
 use Rattle.dots_keys.specs.Waiting.{WaitsForClient}
 use Rattle.dots_keys.proofs.Askable.{then_ok, fact_then_ok, sole_ok}
 use Rattle.dots_heads.specs.Results.{UnlessNoMemory}
+use Rattle.acl_lists.specs.declared.limits.TheConstants.{MAX_ITEMS, MAX_NAMES}
 
 -- a gateway asks for nothing that waits
 abbrev Fits : Bool → Bool → Type 0
@@ -54,11 +55,11 @@ trigger_fits gateway (tag n tree) = tt
 trigger_fits gateway null = tt
 
 take_fits : (gateway : Bool) (key : Option ScopeKey) (said : Scope) (n : ℕ) (tree : Tree) → SaysFitting gateway said → IfOk (take_target gateway key said n tree) (SaysFitting gateway)
-take_fits gateway (Some scope_key.Prefixes) said n tree is = then_ok (array_under 6 16 prefix_of tree) _ (SaysFitting gateway) (λ _. is)
-take_fits gateway (Some scope_key.Ports) said n tree is = then_ok (array_under 7 16 range_of tree) _ (SaysFitting gateway) (λ _. is)
-take_fits gateway (Some scope_key.Protocols) said n tree is = then_ok (array_under 10 16 protocol_of tree) _ (SaysFitting gateway) (λ _. is)
-take_fits gateway (Some scope_key.Names) said n tree is = then_ok (array_under 11 8 (name_of 11) tree) _ (SaysFitting gateway) (λ _. is)
-take_fits gateway (Some scope_key.Aliases) said n tree is = then_ok (array_under 13 8 (name_of 13) tree) _ (SaysFitting gateway) (λ _. is)
+take_fits gateway (Some scope_key.Prefixes) said n tree is = then_ok (array_under 6 MAX_ITEMS prefix_of tree) _ (SaysFitting gateway) (λ _. is)
+take_fits gateway (Some scope_key.Ports) said n tree is = then_ok (array_under 7 MAX_ITEMS range_of tree) _ (SaysFitting gateway) (λ _. is)
+take_fits gateway (Some scope_key.Protocols) said n tree is = then_ok (array_under 10 MAX_ITEMS protocol_of tree) _ (SaysFitting gateway) (λ _. is)
+take_fits gateway (Some scope_key.Names) said n tree is = then_ok (array_under 11 MAX_NAMES (name_of 11) tree) _ (SaysFitting gateway) (λ _. is)
+take_fits gateway (Some scope_key.Aliases) said n tree is = then_ok (array_under 13 MAX_NAMES (name_of 13) tree) _ (SaysFitting gateway) (λ _. is)
 take_fits gateway (Some scope_key.Lifetime) said n tree is = then_ok (lifetime_of tree) _ (SaysFitting gateway) (λ _. is)
 take_fits gateway (Some scope_key.Trigger) said n tree is = fact_then_ok (trigger_of gateway tree) _ (Fits gateway) (SaysFitting gateway) (trigger_fits gateway tree) (λ trigger fits. fits)
 take_fits gateway None said n tree is = tt

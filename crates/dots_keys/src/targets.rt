@@ -2,6 +2,7 @@
 
 ghost use Rattle.std.specs.Prelude.{◌≡◌, option_map};
 ghost use Rattle.cbor_profile.specs.Kind.{items_in};
+ghost use Rattle.acl_lists.specs.declared.limits.TheConstants.{MAX_ITEMS, MAX_NAMES};
 ghost use Rattle.cbor_profile.specs.ItemTrees.{tree_of};
 ghost use Rattle.ip_scope.specs.PrefixReader.{prefix_in};
 ghost use Rattle.dots_keys.specs.FieldValues.{items_seen};
@@ -82,9 +83,9 @@ fn name_of(alloc: Global, key: u8, item: &Item) -> Result<Name, Reject>
     Ok(name)
 }
 
-/// `target-prefix`: at most 16 texts of prefixes.
+/// `target-prefix`: at most 32 texts of prefixes.
 pub fn prefixes_in(alloc: Global, item: &Item) -> Result<PrefixList, Reject>
-    ensures { Gives result (array_under 6 16 prefix_of (tree_of item.now)) }
+    ensures { Gives result (array_under 6 MAX_ITEMS prefix_of (tree_of item.now)) }
 {
     let items = at_most(item, MAX_ITEMS).ok_or(invalid(TARGET_PREFIX))?;
     let mut prefixes = List::new(alloc);
@@ -94,9 +95,9 @@ pub fn prefixes_in(alloc: Global, item: &Item) -> Result<PrefixList, Reject>
     Ok(prefixes)
 }
 
-/// `target-port-range`: at most 16 ranges of ports.
+/// `target-port-range`: at most 32 ranges of ports.
 pub fn ports_of(alloc: Global, item: &Item) -> Result<PortList, Reject>
-    ensures { Gives result (array_under 7 16 range_of (tree_of item.now)) }
+    ensures { Gives result (array_under 7 MAX_ITEMS range_of (tree_of item.now)) }
 {
     let items = at_most(item, MAX_ITEMS).ok_or(invalid(TARGET_PORT_RANGE))?;
     let mut ports = List::new(alloc);
@@ -106,9 +107,9 @@ pub fn ports_of(alloc: Global, item: &Item) -> Result<PortList, Reject>
     Ok(ports)
 }
 
-/// `target-protocol`: at most 16 numbers of protocols.
+/// `target-protocol`: at most 32 numbers of protocols.
 pub fn protocols_of(alloc: Global, item: &Item) -> Result<ByteList, Reject>
-    ensures { Gives result (array_under 10 16 protocol_of (tree_of item.now)) }
+    ensures { Gives result (array_under 10 MAX_ITEMS protocol_of (tree_of item.now)) }
 {
     let items = at_most(item, MAX_ITEMS).ok_or(invalid(TARGET_PROTOCOL))?;
     let mut protocols = Bytes::new(alloc);
@@ -120,7 +121,7 @@ pub fn protocols_of(alloc: Global, item: &Item) -> Result<ByteList, Reject>
 
 /// `target-fqdn` or `alias-name`, as the key says: at most 8 names.
 pub fn names_of(alloc: Global, key: u8, item: &Item) -> Result<NameList, Reject>
-    ensures { Gives result (array_under key 8 (name_of key) (tree_of item.now)) }
+    ensures { Gives result (array_under key MAX_NAMES (name_of key) (tree_of item.now)) }
 {
     let items = at_most(item, MAX_NAMES).ok_or(invalid(key))?;
     let mut names = List::new(alloc);

@@ -29,10 +29,11 @@ use Rattle.conflict_rules.specs.Judging.{refreshed, begun}
 use Rattle.conflict_rules.specs.ByHistory.{client_in, judge_request}
 use Rattle.dots_registry.proofs.Lists.{found_passes, held_pass, lives_pass, written_pass}
 use Rattle.dots_registry.proofs.Granted.{IsGranted, refreshes, begins, granted_by}
+use Rattle.acl_lists.specs.declared.limits.TheConstants.{MAX_ITEMS, MAX_NAMES, MAX_TARGETS, MAX_RESOLVED}
 
 -- ---- the parts of the bounds
 abbrev targets_within : List Target → Bool
-targets_within targets = nat_le (length targets) 9 && list_all target_within targets && nat_le (prefix_count targets) 64
+targets_within targets = nat_le (length targets) MAX_TARGETS && list_all target_within targets && nat_le (prefix_count targets) MAX_RESOLVED
 
 -- as a put has them behind what was asked
 behind : (a b c d : Bool) → a && b && c && d ≡ a && (b && c && d)
@@ -61,16 +62,16 @@ entry_within e time name reply is =
 
 -- ---- what is asked for
 ports_of : (settings : SettingsValue) (asked : Asked) → asked_within asked ≡ true
-    → (target_within (target_of settings asked) ≡ true) × (length asked.aliases ≤ 8)
+    → (target_within (target_of settings asked) ≡ true) × (length asked.aliases ≤ MAX_NAMES)
 ports_of settings asked is =
-    let prefixes = nat_le (length asked.prefixes) 16 in
-    let ports = nat_le (length asked.ports) 16 in
-    let protocols = nat_le (length asked.protocols) 16 in
-    let names = nat_le (length asked.names) 8 in
-    let four = and_parts (prefixes && ports && protocols && names) (nat_le (length asked.aliases) 8) is in
+    let prefixes = nat_le (length asked.prefixes) MAX_ITEMS in
+    let ports = nat_le (length asked.ports) MAX_ITEMS in
+    let protocols = nat_le (length asked.protocols) MAX_ITEMS in
+    let names = nat_le (length asked.names) MAX_NAMES in
+    let four = and_parts (prefixes && ports && protocols && names) (nat_le (length asked.aliases) MAX_NAMES) is in
     let three = and_parts (prefixes && ports && protocols) names four.0 in
     let two = and_parts (prefixes && ports) protocols three.0 in
-    (and_from ports protocols (and_parts prefixes ports two.0).1 two.1, leb-true (length asked.aliases) 8 four.1)
+    (and_from ports protocols (and_parts prefixes ports two.0).1 two.1, leb-true (length asked.aliases) MAX_NAMES four.1)
 
 own_within : (settings : SettingsValue) (asked : Asked) → target_within (target_of settings asked) ≡ true
     → (list_all target_within (own_target settings asked) ≡ true) × (length (own_target settings asked) ≤ 1)
@@ -111,7 +112,7 @@ named_within settings aliases (name ∷ names) all =
     )
 
 new_within : (settings : SettingsValue) (aliases : List Alias) (asked : Asked) → list_all alias_within aliases ≡ true → asked_within asked ≡ true
-    → nat_le (prefix_count (targets_of settings aliases asked)) 64 ≡ true → targets_within (targets_of settings aliases asked) ≡ true
+    → nat_le (prefix_count (targets_of settings aliases asked)) MAX_RESOLVED ≡ true → targets_within (targets_of settings aliases asked) ≡ true
 new_within settings aliases asked all within few =
     let rest = flat_map (alias_target settings aliases) asked.aliases in
     let asks = ports_of settings asked within in
@@ -121,17 +122,17 @@ new_within settings aliases asked all within few =
     let one = own.1 in
     let more = named.1 in
     let eight = asks.1 in
-    let nine : length (targets_of settings aliases asked) ≤ 9 = omega (arith, long, one, more, eight) in
+    let nine : length (targets_of settings aliases asked) ≤ MAX_TARGETS = omega (arith, long, one, more, eight) in
     let each : list_all target_within (targets_of settings aliases asked) ≡ true =
     list_all-append target_within (own_target settings asked) rest
     ∙ and_from (list_all target_within (own_target settings asked)) (list_all target_within rest) own.0 named.0 in
     and_from
-    (nat_le (length (targets_of settings aliases asked)) 9 && list_all target_within (targets_of settings aliases asked))
-    (nat_le (prefix_count (targets_of settings aliases asked)) 64)
+    (nat_le (length (targets_of settings aliases asked)) MAX_TARGETS && list_all target_within (targets_of settings aliases asked))
+    (nat_le (prefix_count (targets_of settings aliases asked)) MAX_RESOLVED)
     (and_from
-    (nat_le (length (targets_of settings aliases asked)) 9)
+    (nat_le (length (targets_of settings aliases asked)) MAX_TARGETS)
     (list_all target_within (targets_of settings aliases asked))
-    (le-leb (length (targets_of settings aliases asked)) 9 nine)
+    (le-leb (length (targets_of settings aliases asked)) MAX_TARGETS nine)
     each)
     few
 
@@ -143,17 +144,17 @@ alias_of_change _ alias is within = absurd (none-some alias is)
 put_of_change : (c : Change) → change_within c ≡ true → targets_within (put_or_nothing (put_of c)).targets ≡ true
 put_of_change (change.Put put) within =
     let asked = asked_within put.asked in
-    let nine = nat_le (length put.targets) 9 in
+    let nine = nat_le (length put.targets) MAX_TARGETS in
     let each = list_all target_within put.targets in
-    let few = nat_le (prefix_count put.targets) 64 in
+    let few = nat_le (prefix_count put.targets) MAX_RESOLVED in
     (and_parts asked (nine && each && few) (sym (behind asked nine each few) ∙ within)).1
 put_of_change _ within = refl
 
 put_from : (put : Put) → asked_within put.asked ≡ true → targets_within put.targets ≡ true → put_within put ≡ true
 put_from put asked within =
-    let nine = nat_le (length put.targets) 9 in
+    let nine = nat_le (length put.targets) MAX_TARGETS in
     let each = list_all target_within put.targets in
-    let few = nat_le (prefix_count put.targets) 64 in
+    let few = nat_le (prefix_count put.targets) MAX_RESOLVED in
     behind (asked_within put.asked) nine each few ∙ and_from (asked_within put.asked) (nine && each && few) asked within
 
 -- ---- the entry

@@ -24,6 +24,7 @@ use Rattle.conflict_rules.specs.declared.judging.Judged.{Judged}
 use Rattle.conflict_rules.specs.Requests.{Request, ClientValue, is_of_another}
 use Rattle.conflict_rules.specs.Targets.{is_unknown, targets_of}
 use Rattle.conflict_rules.specs.Judging.{refreshed, begun, fault_of, overlap_fault, unless, judge_targets, judge_new, judge_standing, judge_known, judge_put}
+use Rattle.acl_lists.specs.declared.limits.TheConstants.{MAX_RESOLVED}
 
 -- ---- a new mitigation for which there is room
 pub record HasPlace (live : List Live) (cuid : List ℕ) (put : Put) (limits : Limits) : Type 0 where
@@ -79,7 +80,7 @@ pub data IsGranted (settings : SettingsValue) (live : List Live) (client : Clien
   refreshes : (m : Live) → find (has_mid request.cuid request.mid) live ≡ Some m → judged ≡ refreshed settings m.put request
       → IsGranted settings live client time request judged
   begins :
-      nat_le (prefix_count (targets_of settings client.aliases request.asked)) 64 ≡ true
+      nat_le (prefix_count (targets_of settings client.aliases request.asked)) MAX_RESOLVED ≡ true
       → HasPlace live request.cuid (wanted request.mid request.asked (targets_of settings client.aliases request.asked) request.trigger) settings.limits
       → judged ≡ begun settings (targets_of settings client.aliases request.asked) time request
       → IsGranted settings live client time request judged
@@ -101,20 +102,20 @@ module _ (settings : SettingsValue) (live : List Live) (client : ClientValue) (t
   few_targets : judge_targets settings live targets time request ≡ Ok judged → IsGranted settings live client time request judged
   few_targets is =
       let given = unless (overlap_fault settings live targets request) (begun settings targets time request) in
-      elim (cases_Bool (nat_le (prefix_count targets) 64)) [
+      elim (cases_Bool (nat_le (prefix_count targets) MAX_RESOLVED)) [
         | inl few ↦
             let both = granted_if
             (overlap_fault settings live targets request)
             (begun settings targets time request)
             judged
-            (sym (cond-true (nat_le (prefix_count targets) 64) given (Err faults.TooMany) few) ∙ is) in
+            (sym (cond-true (nat_le (prefix_count targets) MAX_RESOLVED) given (Err faults.TooMany) few) ∙ is) in
             begins
             few
             (place_of live request.cuid (wanted request.mid request.asked targets request.trigger) settings.limits
             (fresh_fault live request.cuid targets (judge_overlap live request.cuid (wanted request.mid request.asked targets request.trigger) settings.limits) both.0))
             both.1
         | inr many ↦
-            absurd (no_err faults.TooMany judged (sym (cond-false (nat_le (prefix_count targets) 64) given (Err faults.TooMany) many) ∙ is))
+            absurd (no_err faults.TooMany judged (sym (cond-false (nat_le (prefix_count targets) MAX_RESOLVED) given (Err faults.TooMany) many) ∙ is))
       ]
 
   known_aliases : judge_new settings live client.aliases time request ≡ Ok judged → IsGranted settings live client time request judged

@@ -29,6 +29,7 @@ use Rattle.dots_machine.specs.Mitigations.{request_of, client_for, entry_of, is_
 use Rattle.dots_machine.specs.Machine.{State, facts_in}
 use Rattle.dots_server.specs.ServerValues.{ServerValue, Represents, IsAcceptable}
 use Rattle.dots_server.proofs.Insides.{lies_inside}
+use Rattle.acl_lists.specs.declared.limits.TheConstants.{MAX_ITEMS, MAX_NAMES}
 
 few_within : (asked : Asked) → AreFew asked → asked_within asked ≡ true
 few_within asked few =
@@ -36,10 +37,10 @@ few_within asked few =
     and_from _ _
     (and_from _ _
     (and_from _ _
-    (and_from _ _ (at_most (length asked.prefixes) 16 few.prefixes) (at_most (length asked.ports) 16 few.ports))
-    (at_most (length asked.protocols) 16 few.protocols))
-    (at_most (length asked.names) 8 few.names))
-    (at_most (length asked.aliases) 8 few.aliases)
+    (and_from _ _ (at_most (length asked.prefixes) MAX_ITEMS few.prefixes) (at_most (length asked.ports) MAX_ITEMS few.ports))
+    (at_most (length asked.protocols) MAX_ITEMS few.protocols))
+    (at_most (length asked.names) MAX_NAMES few.names))
+    (at_most (length asked.aliases) MAX_NAMES few.aliases)
 
 module _ (server : ServerValue) (asked : MitigationRequest) (judged : Judged) (reply : List ℕ) (may : may_act server.settings (role_of server.settings asked.from.peer) asked.from.domain ≡ true)
     (clear : scope_fault server.settings (prefixes_of server.settings asked.from.domain) asked.body.asked ≡ None) (few : AreFew asked.body.asked)

@@ -26,6 +26,7 @@ use Rattle.dots_laws.proofs.Joining.{fits_so, tally_with, tally_held, tally_same
 use Rattle.dots_laws.proofs.Keyed.{fewer_left}
 use Rattle.installed_filters.specs.HistoryRows.{KeepsLimits, has_few_prefixes}
 use Rattle.installed_filters.proofs.Sieving.{all_filter}
+use Rattle.acl_lists.specs.declared.limits.TheConstants.{MAX_RESOLVED, MAX_TARGETS}
 
 pub limits_first : (limits : Limits) (t : ℕ) → KeepsLimits limits t []
 limits_first limits t = record {
@@ -62,18 +63,18 @@ limits_same limits t xs ys lives standing keeps = record {
 }
 
 -- an entry within bounds has few prefixes
-few_of_put : (put : Put) → put_within put ≡ true → nat_le (prefix_count put.targets) 64 ≡ true
+few_of_put : (put : Put) → put_within put ≡ true → nat_le (prefix_count put.targets) MAX_RESOLVED ≡ true
 few_of_put put is =
     (and_parts
-    ((asked_within put.asked && nat_le (length put.targets) 9) && list_all target_within put.targets)
-    (nat_le (prefix_count put.targets) 64)
+    ((asked_within put.asked && nat_le (length put.targets) MAX_TARGETS) && list_all target_within put.targets)
+    (nat_le (prefix_count put.targets) MAX_RESOLVED)
     is).1
 
-few_of : (c : Change) → change_within c ≡ true → nat_le (prefix_count (targets_of c)) 64 ≡ true
+few_of : (c : Change) → change_within c ≡ true → nat_le (prefix_count (targets_of c)) MAX_RESOLVED ≡ true
 few_of (change.Put put) is = few_of_put put is
 few_of _ is = refl
 
-few_within : (e : Entry) → within_bounds e ≡ true → nat_le (prefix_count (targets_of e.change)) 64 ≡ true
+few_within : (e : Entry) → within_bounds e ≡ true → nat_le (prefix_count (targets_of e.change)) MAX_RESOLVED ≡ true
 few_within e is =
     few_of
     e.change
@@ -82,7 +83,7 @@ few_within e is =
     (change_within e.change)
     is).1
 
-prefixes_with : (e : Entry) (ms : List Mitigation) → nat_le (prefix_count (targets_of e.change)) 64 ≡ true → list_all has_few_prefixes ms ≡ true
+prefixes_with : (e : Entry) (ms : List Mitigation) → nat_le (prefix_count (targets_of e.change)) MAX_RESOLVED ≡ true → list_all has_few_prefixes ms ≡ true
     → list_all has_few_prefixes (mitigations_with e ms) ≡ true
 prefixes_with e [] few all =
     cond_both
@@ -90,7 +91,7 @@ prefixes_with e [] few all =
     (record { put = e; status = Open } ∷ [])
     []
     (λ ms. list_all has_few_prefixes ms ≡ true)
-    (λ is. and_from (nat_le (prefix_count (targets_of e.change)) 64) true few refl)
+    (λ is. and_from (nat_le (prefix_count (targets_of e.change)) MAX_RESOLVED) true few refl)
     (λ out. refl)
 prefixes_with e (m ∷ ms) few all =
     let parts = and_parts (has_few_prefixes m) (list_all has_few_prefixes ms) all in

@@ -409,7 +409,7 @@ activated_placed domain cuid active next table new is placed =
 abbrev empty_table : ℕ → ℕ → TableValue
 empty_table scrubs acls = record { scrub_room = scrubs; acl_room = acls; scrubs = []; acls = [] }
 
-pub first_placed : (scrubs acls : ℕ) (table : TableValue) → table ≡ empty_table scrubs acls → scrubs ≤ 65536 → acls ≤ 65536 → IsPlaced 0 table
+pub first_placed : (scrubs acls : ℕ) (table : TableValue) → table ≡ empty_table scrubs acls → scrubs ≤ 131072 → acls ≤ 131072 → IsPlaced 0 table
 first_placed scrubs acls table is few_scrubs few_acls =
     subst
     (IsPlaced 0)

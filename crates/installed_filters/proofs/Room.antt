@@ -22,6 +22,7 @@ use Rattle.installed_filters.specs.Filters.{scrub_row_with, rows_with, acl_row_b
 use Rattle.installed_filters.specs.HistoryRows.{KeepsLimits, has_few_prefixes, scrub_room_of, acl_room_of}
 use Rattle.installed_filters.proofs.Keys.{scrubs_by, rows_are}
 use Rattle.installed_filters.proofs.Waking.{acls_by_client, lists_are, mitigates}
+use Rattle.acl_lists.specs.declared.limits.TheConstants.{MAX_RESOLVED}
 
 -- ---- numbers below one
 
@@ -63,11 +64,11 @@ targets_number active e (target ∷ targets) =
 rows_number : (active : Bool) (e : Entry) → length (rows_with active e) ≡ prefix_count (targets_of e.change)
 rows_number active e = targets_number active e (targets_of e.change)
 
-few_scrubs : (working : Entry → Bool) (ms : List Mitigation) → list_all has_few_prefixes ms ≡ true → length (scrubs_by working ms) ≤ length ms * 64
+few_scrubs : (working : Entry → Bool) (ms : List Mitigation) → list_all has_few_prefixes ms ≡ true → length (scrubs_by working ms) ≤ length ms * MAX_RESOLVED
 few_scrubs working [] all = omega arith
 few_scrubs working (m ∷ ms) all =
     let parts = and_parts (has_few_prefixes m) (list_all has_few_prefixes ms) all in
-    let few = leb-true (prefix_count (targets_of m.put.change)) 64 parts.0 in
+    let few = leb-true (prefix_count (targets_of m.put.change)) MAX_RESOLVED parts.0 in
     let own = rows_number (working m.put) m.put in
     let rest = few_scrubs working ms parts.1 in
     let all_rows = length-append (rows_with (working m.put) m.put) (scrubs_by working ms) in
@@ -104,7 +105,7 @@ pub scrubs_fit : (domains : ℕ) (limits : Limits) (t : ℕ) (entries : List Ent
     → length (plain_rows t entries) ≤ scrub_room_of domains limits
 scrubs_fit domains limits t entries inside keeps =
     let rows = few_scrubs (works (held entries)) (mitigations t entries) keeps.prefixes in
-    let live = mul-le-mul_right 64 (few_live domains limits t entries inside keeps) in
+    let live = mul-le-mul_right MAX_RESOLVED (few_live domains limits t entries inside keeps) in
     let are = ap length (rows_are t entries) in
     omega (arith, rows, live, are)
 

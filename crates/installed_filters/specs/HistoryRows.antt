@@ -15,7 +15,7 @@ pub record Represents (filters : FiltersValue) (t : ℕ) (entries : List Entry) 
   pub scrubs : filters.scrubs ≡ plain_rows t entries
   pub acls : filters.acls ≡ acl_rows t entries
 
--- room for the rows of as many mitigations, of at most 64 prefixes each, and for as many lists, as the limits allow in so many domains
+-- room for the rows of as many mitigations, of at most 128 prefixes each, and for as many lists, as the limits allow in so many domains
 abbrev pub scrub_room_of : ℕ → Limits → ℕ
 scrub_room_of domains limits = domains * limits.domain_mitigations * MAX_RESOLVED
 
@@ -26,12 +26,12 @@ pub record HasRoom (domains : ℕ) (limits : Limits) (filters : FiltersValue) : 
   pub scrubs : filters.scrub_room ≡ scrub_room_of domains limits
   pub acls : filters.acl_room ≡ acl_room_of domains limits
 
--- a mitigation has at most 64 prefixes
+-- a mitigation has at most 128 prefixes
 abbrev pub has_few_prefixes : Mitigation → Bool
 has_few_prefixes m = nat_le (prefix_count (targets_of m.put.change)) MAX_RESOLVED
 
 -- In what the history comes to at the time, no domain has more live mitigations and registered clients, and no client more
--- access lists, than the limits allow; and no live mitigation has more than 64 prefixes.
+-- access lists, than the limits allow; and no live mitigation has more than 128 prefixes.
 pub record KeepsLimits (limits : Limits) (t : ℕ) (entries : List Entry) : Type 0 where
   pub live : (domain : ℕ) → tally (λ (m : Mitigation). m.put.domain == domain) (mitigations t entries) ≤ limits.domain_mitigations
   pub prefixes : list_all has_few_prefixes (mitigations t entries) ≡ true

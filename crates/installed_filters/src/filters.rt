@@ -118,9 +118,9 @@ impl InstalledFilters {
 fn room_of(domains: u16, of_domain: u32, of_each: u32) -> usize
     requires few { domains ≤ 16 }
     requires in_domain { of_domain ≤ 64 }
-    requires in_each { of_each ≤ 64 }
+    requires in_each { of_each ≤ 128 }
     ensures value { result ≡ domains * of_domain * of_each }
-    ensures most { result ≤ 65536 }
+    ensures most { result ≤ 131072 }
 {
     let number = usize::from(domains) * of_domain as usize;
     number * of_each as usize

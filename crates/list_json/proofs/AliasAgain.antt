@@ -22,6 +22,7 @@ use Rattle.list_json.specs.Shapes.{may_have, only, whole_object}
 use Rattle.list_json.specs.Steps.{◌>>=◌, needed, otherwise, items_in}
 use Rattle.list_json.specs.Values.{name_of, prefix_of, protocol_of, port_of}
 use Rattle.list_json.proofs.Again.{bound_ok, ok_same, name_bound, name_again, number_bound, number_again, prefix_again, printed_items, items_again}
+use Rattle.acl_lists.specs.declared.limits.TheConstants.{MAX_ITEMS, MAX_NAMES}
 
 -- ---- members by their names
 
@@ -89,10 +90,10 @@ target_same [] ports protocols [] aliases asked is = absurd (cc)
 abbrev pub Parts : Alias → Type 0
 Parts alias =
     (is_name alias.name ≡ true)
-    × (items_in the.TargetPrefix 16 (prefix_of the.TargetPrefix) (printed_items prefix_data alias.asked.prefixes) ≡ Ok alias.asked.prefixes)
-    × (items_in the.TargetPortRange 16 range_of (printed_items range_data alias.asked.ports) ≡ Ok alias.asked.ports)
-    × (items_in the.TargetProtocol 16 (protocol_of the.TargetProtocol) (printed_items number_data alias.asked.protocols) ≡ Ok alias.asked.protocols)
-    × (items_in the.TargetFqdn 8 (name_of the.TargetFqdn) (printed_items string alias.asked.names) ≡ Ok alias.asked.names)
+    × (items_in the.TargetPrefix MAX_ITEMS (prefix_of the.TargetPrefix) (printed_items prefix_data alias.asked.prefixes) ≡ Ok alias.asked.prefixes)
+    × (items_in the.TargetPortRange MAX_ITEMS range_of (printed_items range_data alias.asked.ports) ≡ Ok alias.asked.ports)
+    × (items_in the.TargetProtocol MAX_ITEMS (protocol_of the.TargetProtocol) (printed_items number_data alias.asked.protocols) ≡ Ok alias.asked.protocols)
+    × (items_in the.TargetFqdn MAX_NAMES (name_of the.TargetFqdn) (printed_items string alias.asked.names) ≡ Ok alias.asked.names)
     × (with_target (record alias.asked { aliases = [] }) ≡ Ok alias.asked)
 
 -- the members that follow others
@@ -155,13 +156,13 @@ abbrev pub behind_names : List PrefixValue → List Ports → List ℕ → List 
 behind_names prefixes ports protocols names = with_target (record { prefixes = prefixes; ports = ports; protocols = protocols; names = names; aliases = [] })
 
 abbrev pub behind_protocols : Data → List PrefixValue → List Ports → List ℕ → Result Asked ListFault
-behind_protocols d prefixes ports protocols = items_in the.TargetFqdn 8 (name_of the.TargetFqdn) (get (codes "target-fqdn") d) >>= behind_names prefixes ports protocols
+behind_protocols d prefixes ports protocols = items_in the.TargetFqdn MAX_NAMES (name_of the.TargetFqdn) (get (codes "target-fqdn") d) >>= behind_names prefixes ports protocols
 
 abbrev pub behind_ports : Data → List PrefixValue → List Ports → Result Asked ListFault
-behind_ports d prefixes ports = items_in the.TargetProtocol 16 (protocol_of the.TargetProtocol) (get (codes "target-protocol") d) >>= behind_protocols d prefixes ports
+behind_ports d prefixes ports = items_in the.TargetProtocol MAX_ITEMS (protocol_of the.TargetProtocol) (get (codes "target-protocol") d) >>= behind_protocols d prefixes ports
 
 abbrev pub behind_prefixes : Data → List PrefixValue → Result Asked ListFault
-behind_prefixes d prefixes = items_in the.TargetPortRange 16 range_of (get (codes "target-port-range") d) >>= behind_ports d prefixes
+behind_prefixes d prefixes = items_in the.TargetPortRange MAX_ITEMS range_of (get (codes "target-port-range") d) >>= behind_ports d prefixes
 
 abbrev pub behind_targets : List ℕ → Asked → Result Alias ListFault
 behind_targets name asked = Ok (record { name = name; asked = asked })
@@ -178,10 +179,10 @@ alias_again d alias valid is =
     let whole = bound_ok (whole_object shape.Alias the.Alias d) (behind_whole d) alias is in
     let name = bound_ok (needed the.Name (name_of the.Name) (get (codes "name") d)) (behind_name d) alias whole.2 in
     let asked = bound_ok (targets_of d) (behind_targets name.0) alias name.2 in
-    let prefixes = bound_ok (items_in the.TargetPrefix 16 (prefix_of the.TargetPrefix) (get (codes "target-prefix") d)) (behind_prefixes d) asked.0 asked.1 in
-    let ports = bound_ok (items_in the.TargetPortRange 16 range_of (get (codes "target-port-range") d)) (behind_ports d prefixes.0) asked.0 prefixes.2 in
-    let protocols = bound_ok (items_in the.TargetProtocol 16 (protocol_of the.TargetProtocol) (get (codes "target-protocol") d)) (behind_protocols d prefixes.0 ports.0) asked.0 ports.2 in
-    let names = bound_ok (items_in the.TargetFqdn 8 (name_of the.TargetFqdn) (get (codes "target-fqdn") d)) (behind_names prefixes.0 ports.0 protocols.0) asked.0 protocols.2 in
+    let prefixes = bound_ok (items_in the.TargetPrefix MAX_ITEMS (prefix_of the.TargetPrefix) (get (codes "target-prefix") d)) (behind_prefixes d) asked.0 asked.1 in
+    let ports = bound_ok (items_in the.TargetPortRange MAX_ITEMS range_of (get (codes "target-port-range") d)) (behind_ports d prefixes.0) asked.0 prefixes.2 in
+    let protocols = bound_ok (items_in the.TargetProtocol MAX_ITEMS (protocol_of the.TargetProtocol) (get (codes "target-protocol") d)) (behind_protocols d prefixes.0 ports.0) asked.0 ports.2 in
+    let names = bound_ok (items_in the.TargetFqdn MAX_NAMES (name_of the.TargetFqdn) (get (codes "target-fqdn") d)) (behind_names prefixes.0 ports.0 protocols.0) asked.0 protocols.2 in
     let rebuilt : Asked = record { prefixes = prefixes.0; ports = ports.0; protocols = protocols.0; names = names.0; aliases = [] } in
     let targets = target_same prefixes.0 ports.0 protocols.0 names.0 [] asked.0 names.2 in
     let same_asked = ok_same (record { name = name.0; asked = asked.0 }) alias asked.2 in
@@ -189,10 +190,10 @@ alias_again d alias valid is =
     let all = subst (λ (a : Alias). AllByRecursion IsPrefix a.asked.prefixes) (sym same) valid in
     let parts : Parts (record { name = name.0; asked = rebuilt }) = (
       needed_name (get (codes "name") d) name.0 name.1,
-      items_again IsPrefix the.TargetPrefix 16 (prefix_of the.TargetPrefix) prefix_data (λ e x good read. prefix_again the.TargetPrefix x good) (get (codes "target-prefix") d) prefixes.0 all prefixes.1,
-      items_again Anything the.TargetPortRange 16 range_of range_data (λ e x good read. range_again e x read) (get (codes "target-port-range") d) ports.0 (all_anything ports.0) ports.1,
-      items_again Anything the.TargetProtocol 16 (protocol_of the.TargetProtocol) number_data (λ e x good read. number_again 256 the.TargetProtocol x (number_bound 256 the.TargetProtocol e x read)) (get (codes "target-protocol") d) protocols.0 (all_anything protocols.0) protocols.1,
-      items_again Anything the.TargetFqdn 8 (name_of the.TargetFqdn) string (λ e x good read. name_again the.TargetFqdn x (name_bound the.TargetFqdn e x read)) (get (codes "target-fqdn") d) names.0 (all_anything names.0) names.1,
+      items_again IsPrefix the.TargetPrefix MAX_ITEMS (prefix_of the.TargetPrefix) prefix_data (λ e x good read. prefix_again the.TargetPrefix x good) (get (codes "target-prefix") d) prefixes.0 all prefixes.1,
+      items_again Anything the.TargetPortRange MAX_ITEMS range_of range_data (λ e x good read. range_again e x read) (get (codes "target-port-range") d) ports.0 (all_anything ports.0) ports.1,
+      items_again Anything the.TargetProtocol MAX_ITEMS (protocol_of the.TargetProtocol) number_data (λ e x good read. number_again 256 the.TargetProtocol x (number_bound 256 the.TargetProtocol e x read)) (get (codes "target-protocol") d) protocols.0 (all_anything protocols.0) protocols.1,
+      items_again Anything the.TargetFqdn MAX_NAMES (name_of the.TargetFqdn) string (λ e x good read. name_again the.TargetFqdn x (name_bound the.TargetFqdn e x read)) (get (codes "target-fqdn") d) names.0 (all_anything names.0) names.1,
       names.2 ∙ ap Ok (sym targets),
     ) in
     subst (λ (a : Alias). alias_in (alias_data a) ≡ Ok a) same (parts_again (record { name = name.0; asked = rebuilt }) parts)

@@ -38,6 +38,7 @@ use Rattle.list_json.specs.Steps.{◌>>=◌, needed, given, otherwise, items_in}
 use Rattle.list_json.specs.Values.{name_of, prefix_of, protocol_of, port_of, number_below}
 use Rattle.list_json.proofs.Again.{bound_ok, ok_same, name_again, number_bound, prefix_text_again, printed_items, items_again}
 use Rattle.list_json.proofs.AliasAgain.{ordered_ports, needed_name}
+use Rattle.acl_lists.specs.declared.limits.TheConstants.{MAX_ACES}
 
 -- ---- members by their names
 
@@ -533,21 +534,21 @@ entries_same (entry ∷ entries) aces is = entries_checked (distinct (entry ∷ 
   entries_checked true is = ok_same (entry ∷ entries) aces is
   entries_checked false is = absurd (cc)
 
-aces_made : (family : Family) (aces : List Ace) → some_entries aces ≡ Ok aces → items_in the.Ace 32 (entry_of family) (printed_items (entry_data family) aces) ≡ Ok aces → aces_of family (aces_data family aces) ≡ Ok aces
+aces_made : (family : Family) (aces : List Ace) → some_entries aces ≡ Ok aces → items_in the.Ace MAX_ACES (entry_of family) (printed_items (entry_data family) aces) ≡ Ok aces → aces_of family (aces_data family aces) ≡ Ok aces
 aces_made family [] some again = absurd (cc)
 aces_made family (entry ∷ entries) some again = rw again some
 
 abbrev pub behind_aces : Family → Data → Unit {0} → Result (List Ace) ListFault
-behind_aces family d done = items_in the.Ace 32 (entry_of family) (get (codes "ace") d) >>= some_entries
+behind_aces family d done = items_in the.Ace MAX_ACES (entry_of family) (get (codes "ace") d) >>= some_entries
 
 aces_again : (family : Family) (d : Data) (aces : List Ace) → AllByRecursion HasPrefixes aces → aces_of family d ≡ Ok aces → aces_of family (aces_data family aces) ≡ Ok aces
 aces_again family d aces valid is =
     let whole = bound_ok (whole_object shape.Aces the.Aces d) (behind_aces family d) aces is in
-    let items = bound_ok (items_in the.Ace 32 (entry_of family) (get (codes "ace") d)) some_entries aces whole.2 in
+    let items = bound_ok (items_in the.Ace MAX_ACES (entry_of family) (get (codes "ace") d)) some_entries aces whole.2 in
     let same = entries_same items.0 aces items.2 in
     let some = subst (λ (xs : List Ace). some_entries xs ≡ Ok aces) same items.2 in
-    let read = subst (λ (xs : List Ace). items_in the.Ace 32 (entry_of family) (get (codes "ace") d) ≡ Ok xs) same items.1 in
-    let again = items_again HasPrefixes the.Ace 32 (entry_of family) (entry_data family) (λ e x good found. entry_again family x (entry_read family e x found) good) (get (codes "ace") d) aces valid read in
+    let read = subst (λ (xs : List Ace). items_in the.Ace MAX_ACES (entry_of family) (get (codes "ace") d) ≡ Ok xs) same items.1 in
+    let again = items_again HasPrefixes the.Ace MAX_ACES (entry_of family) (entry_data family) (λ e x good found. entry_again family x (entry_read family e x found) good) (get (codes "ace") d) aces valid read in
     aces_made family aces some again
 
 needed_aces : (family : Family) (o : Option Data) (aces : List Ace) → AllByRecursion HasPrefixes aces → needed the.Aces (aces_of family) o ≡ Ok aces → aces_of family (aces_data family aces) ≡ Ok aces

@@ -27,6 +27,7 @@ use Rattle.list_json.proofs.AliasAgain.{target_same}
 use Rattle.list_json.proofs.AliasAgain as aliases
 use Rattle.list_json.proofs.ListAgain.{entries_same}
 use Rattle.list_json.proofs.ListAgain as lists
+use Rattle.acl_lists.specs.declared.limits.TheConstants.{MAX_ACES, MAX_ITEMS, MAX_NAMES}
 
 -- ---- arrays
 
@@ -60,33 +61,33 @@ alias_within d alias is =
     let whole = bound_ok (whole_object shape.Alias the.Alias d) (aliases.behind_whole d) alias is in
     let name = bound_ok (needed the.Name (name_of the.Name) (get (codes "name") d)) (aliases.behind_name d) alias whole.2 in
     let asked = bound_ok (targets_of d) (aliases.behind_targets name.0) alias name.2 in
-    let prefixes = bound_ok (items_in the.TargetPrefix 16 (prefix_of the.TargetPrefix) (get (codes "target-prefix") d)) (aliases.behind_prefixes d) asked.0 asked.1 in
-    let ports = bound_ok (items_in the.TargetPortRange 16 range_of (get (codes "target-port-range") d)) (aliases.behind_ports d prefixes.0) asked.0 prefixes.2 in
-    let protocols = bound_ok (items_in the.TargetProtocol 16 (protocol_of the.TargetProtocol) (get (codes "target-protocol") d)) (aliases.behind_protocols d prefixes.0 ports.0) asked.0 ports.2 in
-    let names = bound_ok (items_in the.TargetFqdn 8 (name_of the.TargetFqdn) (get (codes "target-fqdn") d)) (aliases.behind_names prefixes.0 ports.0 protocols.0) asked.0 protocols.2 in
+    let prefixes = bound_ok (items_in the.TargetPrefix MAX_ITEMS (prefix_of the.TargetPrefix) (get (codes "target-prefix") d)) (aliases.behind_prefixes d) asked.0 asked.1 in
+    let ports = bound_ok (items_in the.TargetPortRange MAX_ITEMS range_of (get (codes "target-port-range") d)) (aliases.behind_ports d prefixes.0) asked.0 prefixes.2 in
+    let protocols = bound_ok (items_in the.TargetProtocol MAX_ITEMS (protocol_of the.TargetProtocol) (get (codes "target-protocol") d)) (aliases.behind_protocols d prefixes.0 ports.0) asked.0 ports.2 in
+    let names = bound_ok (items_in the.TargetFqdn MAX_NAMES (name_of the.TargetFqdn) (get (codes "target-fqdn") d)) (aliases.behind_names prefixes.0 ports.0 protocols.0) asked.0 protocols.2 in
     let rebuilt : Asked = record { prefixes = prefixes.0; ports = ports.0; protocols = protocols.0; names = names.0; aliases = [] } in
     let targets = target_same prefixes.0 ports.0 protocols.0 names.0 [] asked.0 names.2 in
     let same : record { name = name.0; asked = rebuilt } ≡ alias = ap (λ (a : Asked). record { name = name.0; asked = a }) targets ∙ ok_same (record { name = name.0; asked = asked.0 }) alias asked.2 in
     subst (λ (a : Alias). IsAliasWithin a) same
     (record {
-      prefixes = items_few the.TargetPrefix 16 (prefix_of the.TargetPrefix) (get (codes "target-prefix") d) prefixes.0 prefixes.1;
-      ports = items_few the.TargetPortRange 16 range_of (get (codes "target-port-range") d) ports.0 ports.1;
-      protocols = items_few the.TargetProtocol 16 (protocol_of the.TargetProtocol) (get (codes "target-protocol") d) protocols.0 protocols.1;
-      names = items_few the.TargetFqdn 8 (name_of the.TargetFqdn) (get (codes "target-fqdn") d) names.0 names.1;
+      prefixes = items_few the.TargetPrefix MAX_ITEMS (prefix_of the.TargetPrefix) (get (codes "target-prefix") d) prefixes.0 prefixes.1;
+      ports = items_few the.TargetPortRange MAX_ITEMS range_of (get (codes "target-port-range") d) ports.0 ports.1;
+      protocols = items_few the.TargetProtocol MAX_ITEMS (protocol_of the.TargetProtocol) (get (codes "target-protocol") d) protocols.0 protocols.1;
+      names = items_few the.TargetFqdn MAX_NAMES (name_of the.TargetFqdn) (get (codes "target-fqdn") d) names.0 names.1;
       aliases = refl;
     })
 
 -- ---- access lists
 
-aces_few : (family : Family) (d : Data) (aces : List Ace) → aces_of family d ≡ Ok aces → length aces ≤ 32
+aces_few : (family : Family) (d : Data) (aces : List Ace) → aces_of family d ≡ Ok aces → length aces ≤ MAX_ACES
 aces_few family d aces is =
     let whole = bound_ok (whole_object shape.Aces the.Aces d) (lists.behind_aces family d) aces is in
-    let items = bound_ok (items_in the.Ace 32 (entry_of family) (get (codes "ace") d)) some_entries aces whole.2 in
-    let few = items_few the.Ace 32 (entry_of family) (get (codes "ace") d) items.0 items.1 in
+    let items = bound_ok (items_in the.Ace MAX_ACES (entry_of family) (get (codes "ace") d)) some_entries aces whole.2 in
+    let few = items_few the.Ace MAX_ACES (entry_of family) (get (codes "ace") d) items.0 items.1 in
     let same = ap length (entries_same items.0 aces items.2) in
     omega (arith, few, same)
 
-needed_few : (family : Family) (o : Option Data) (aces : List Ace) → needed the.Aces (aces_of family) o ≡ Ok aces → length aces ≤ 32
+needed_few : (family : Family) (o : Option Data) (aces : List Ace) → needed the.Aces (aces_of family) o ≡ Ok aces → length aces ≤ MAX_ACES
 needed_few family None aces is = absurd (cc)
 needed_few family (Some d) aces is = aces_few family d aces is
 

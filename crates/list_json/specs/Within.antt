@@ -4,7 +4,7 @@ use Rattle.acl_lists.specs.declared.acl.Acl.{Acl}
 use Rattle.acl_lists.specs.declared.alias.Alias.{Alias}
 use Rattle.acl_lists.specs.declared.limits.TheConstants.{MAX_ITEMS, MAX_NAMES, MAX_ACES}
 
--- at most 16 prefixes, port ranges and protocols each, 8 host names, and no further alias
+-- at most 32 prefixes, port ranges and protocols each, 8 host names, and no further alias
 pub record IsAliasWithin (alias : Alias) : Type 0 where
   pub prefixes : length alias.asked.prefixes ≤ MAX_ITEMS
   pub ports : length alias.asked.ports ≤ MAX_ITEMS
@@ -12,6 +12,6 @@ pub record IsAliasWithin (alias : Alias) : Type 0 where
   pub names : length alias.asked.names ≤ MAX_NAMES
   pub aliases : alias.asked.aliases ≡ []
 
--- at most 32 entries
+-- at most 64 entries
 abbrev pub IsAclWithin : Acl → Type 0
 IsAclWithin acl = length acl.aces ≤ MAX_ACES

@@ -3,6 +3,7 @@
 ghost use Rattle.std.specs.Prelude.{◌≡◌, codes};
 ghost use Rattle.serde_json.specs.Find.{get};
 ghost use Rattle.serde_json.specs.View.{view};
+ghost use Rattle.acl_lists.specs.declared.limits.TheConstants.{MAX_ITEMS, MAX_NAMES};
 ghost use Rattle.list_json.specs.declared.fault.Member.TheVariants as the;
 ghost use Rattle.list_json.specs.Aliases.{alias_in, range_between, range_of, targets_from, with_target};
 ghost use Rattle.list_json.specs.Found.{found};
@@ -56,9 +57,9 @@ fn range_of(value: &Value) -> Result<PortRange, ListFault>
     range_between(lower, upper)
 }
 
-/// The member `target-prefix`: at most 16 texts of prefixes.
+/// The member `target-prefix`: at most 32 texts of prefixes.
 fn prefixes_of(alloc: Global, member: Option<&Value>) -> Result<PrefixList, ListFault>
-    ensures { Gives result (items_in the.TargetPrefix 16 (prefix_of the.TargetPrefix) (found member.entry)) }
+    ensures { Gives result (items_in the.TargetPrefix MAX_ITEMS (prefix_of the.TargetPrefix) (found member.entry)) }
 {
     let Some(value) = member else {
         return Ok(List::new(alloc));
@@ -76,9 +77,9 @@ fn prefixes_of(alloc: Global, member: Option<&Value>) -> Result<PrefixList, List
     Ok(prefixes)
 }
 
-/// The member `target-port-range`: at most 16 ranges of ports.
+/// The member `target-port-range`: at most 32 ranges of ports.
 fn ports_of(alloc: Global, member: Option<&Value>) -> Result<PortList, ListFault>
-    ensures { Gives result (items_in the.TargetPortRange 16 range_of (found member.entry)) }
+    ensures { Gives result (items_in the.TargetPortRange MAX_ITEMS range_of (found member.entry)) }
 {
     let Some(value) = member else {
         return Ok(List::new(alloc));
@@ -96,9 +97,9 @@ fn ports_of(alloc: Global, member: Option<&Value>) -> Result<PortList, ListFault
     Ok(ports)
 }
 
-/// The member `target-protocol`: at most 16 numbers of protocols.
+/// The member `target-protocol`: at most 32 numbers of protocols.
 fn protocols_of(alloc: Global, member: Option<&Value>) -> Result<ByteList, ListFault>
-    ensures { Gives result (items_in the.TargetProtocol 16 (protocol_of the.TargetProtocol) (found member.entry)) }
+    ensures { Gives result (items_in the.TargetProtocol MAX_ITEMS (protocol_of the.TargetProtocol) (found member.entry)) }
 {
     let Some(value) = member else {
         return Ok(Bytes::new(alloc));
@@ -118,7 +119,7 @@ fn protocols_of(alloc: Global, member: Option<&Value>) -> Result<ByteList, ListF
 
 /// The member `target-fqdn`: at most 8 names.
 fn names_of(alloc: Global, member: Option<&Value>) -> Result<NameList, ListFault>
-    ensures { Gives result (items_in the.TargetFqdn 8 (name_of the.TargetFqdn) (found member.entry)) }
+    ensures { Gives result (items_in the.TargetFqdn MAX_NAMES (name_of the.TargetFqdn) (found member.entry)) }
 {
     let Some(value) = member else {
         return Ok(List::new(alloc));

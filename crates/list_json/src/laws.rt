@@ -26,12 +26,12 @@ pub fn acl_is_read_again()
         → acl_in (acl_data acl) ≡ Ok acl }
 {}
 
-/// An alias that a value is has at most 16 prefixes, port ranges and protocols each, at most 8 host names, and names no further alias.
+/// An alias that a value is has at most 32 prefixes, port ranges and protocols each, at most 8 host names, and names no further alias.
 pub fn alias_is_within_bounds()
     ensures { (d : Data) (alias : aliases.Alias) → alias_in d ≡ Ok alias → IsAliasWithin alias }
 {}
 
-/// An access list that a value is has at most 32 entries.
+/// An access list that a value is has at most 64 entries.
 pub fn acl_is_within_bounds()
     ensures { (d : Data) (acl : acls.Acl) → acl_in d ≡ Ok acl → IsAclWithin acl }
 {}

@@ -3,6 +3,7 @@
 ghost use Rattle.std.specs.Prelude.{◌≡◌, codes, bytes_eq};
 ghost use Rattle.std.specs.List.{list_any};
 ghost use Rattle.acl_lists.specs.declared.acl.Activation.TheVariants as activation;
+ghost use Rattle.acl_lists.specs.declared.limits.TheConstants.{MAX_ACES};
 ghost use Rattle.serde_json.specs.Find.{get};
 ghost use Rattle.serde_json.specs.View.{view};
 ghost use Rattle.list_json.specs.declared.fault.Member.TheVariants as the;
@@ -103,9 +104,9 @@ fn entry_of(alloc: Global, family: Family, value: &Value) -> Result<Ace, ListFau
     }
 }
 
-/// The member `ace`: at most 32 entries.
+/// The member `ace`: at most 64 entries.
 fn own_entries(alloc: Global, family: Family, aces: &Value) -> Result<AceList, ListFault>
-    ensures { Gives result (items_in the.Ace 32 (entry_of family) (get (codes "ace") (view aces.now))) }
+    ensures { Gives result (items_in the.Ace MAX_ACES (entry_of family) (get (codes "ace") (view aces.now))) }
 {
     let Some(value) = aces.get("ace") else {
         return Ok(List::new(alloc));

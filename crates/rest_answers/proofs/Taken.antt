@@ -38,6 +38,7 @@ use Rattle.rest_answers.proofs.Accepted.{accepts}
 use Rattle.rest_answers.proofs.Insides.{alias_inside, list_inside}
 use Rattle.rest_answers.proofs.Judged.{judged_clear, new_by_put, new_by_post, HasPlace, alias_by_put, alias_by_post, list_by_put, list_by_post}
 use Rattle.rest_answers.proofs.Rooms.{HasRoom, held_most, held_room, alias_placed, list_placed, room_parts, room_after, registered_same}
+use Rattle.acl_lists.specs.declared.limits.TheConstants.{MAX_ITEMS, MAX_NAMES, MAX_ACES}
 
 -- it holds of a change that is made
 abbrev OfChange : (Change → Type 0) → Option Change → Type 0
@@ -120,13 +121,13 @@ alias_bounded alias within =
     let none = ap length within.aliases in
     let asked = alias.asked in
     and_from _ (length asked.aliases == 0)
-    (and_from _ (nat_le (length asked.aliases) 8)
-    (and_from _ (nat_le (length asked.names) 8)
-    (and_from _ (nat_le (length asked.protocols) 16)
-    (and_from (nat_le (length asked.prefixes) 16) (nat_le (length asked.ports) 16) (few (length asked.prefixes) 16 within.prefixes) (few (length asked.ports) 16 within.ports))
-    (few (length asked.protocols) 16 within.protocols))
-    (few (length asked.names) 8 within.names))
-    (few (length asked.aliases) 8 (omega (arith, none))))
+    (and_from _ (nat_le (length asked.aliases) MAX_NAMES)
+    (and_from _ (nat_le (length asked.names) MAX_NAMES)
+    (and_from _ (nat_le (length asked.protocols) MAX_ITEMS)
+    (and_from (nat_le (length asked.prefixes) MAX_ITEMS) (nat_le (length asked.ports) MAX_ITEMS) (few (length asked.prefixes) MAX_ITEMS within.prefixes) (few (length asked.ports) MAX_ITEMS within.ports))
+    (few (length asked.protocols) MAX_ITEMS within.protocols))
+    (few (length asked.names) MAX_NAMES within.names))
+    (few (length asked.aliases) MAX_NAMES (omega (arith, none))))
     (ap (λ (xs : List (List ℕ)). length xs == 0) within.aliases)
 
 abbrev ChangeWithin : Change → Type 0
@@ -143,8 +144,8 @@ bounds_of (request.PostAlias cuid alias) within = (within.0, alias_bounded alias
 bounds_of (request.GetAlias cuid name) within = (within, tt)
 bounds_of (request.DeleteAlias cuid name) within = (within, refl)
 bounds_of (request.GetAliases cuid) within = (within, tt)
-bounds_of (request.PutAcl cuid acl) within = (within.0, few (length acl.aces) 32 within.1)
-bounds_of (request.PostAcl cuid acl) within = (within.0, few (length acl.aces) 32 within.1)
+bounds_of (request.PutAcl cuid acl) within = (within.0, few (length acl.aces) MAX_ACES within.1)
+bounds_of (request.PostAcl cuid acl) within = (within.0, few (length acl.aces) MAX_ACES within.1)
 bounds_of (request.GetAcl cuid name) within = (within, tt)
 bounds_of (request.DeleteAcl cuid name) within = (within, refl)
 bounds_of (request.GetAcls cuid) within = (within, tt)

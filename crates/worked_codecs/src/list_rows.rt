@@ -141,21 +141,21 @@ fn many(alloc: Global, count: u32) -> Result<String, AllocError> {
     )
 }
 
-/// A row of 32 entries, with all of them as they are printed.
+/// A row of 64 entries, with all of them as they are printed.
 fn most(alloc: Global) -> Result<String, AllocError> {
-    let asked = many(alloc, 32)?;
+    let asked = many(alloc, 64)?;
     let printed = listed(
         alloc,
-        32,
+        64,
         "{\"actions\":{\"forwarding\":\"drop\"},\"name\":\"",
         "\"}",
     )?;
     format!(in alloc; "{asked} = {printed}")
 }
 
-/// A row of 33 entries.
+/// A row of 65 entries.
 fn too_many(alloc: Global) -> Result<String, AllocError> {
-    let asked = many(alloc, 33)?;
+    let asked = many(alloc, 65)?;
     format!(in alloc; "{asked} = Invalid(Ace)")
 }
 
@@ -169,9 +169,9 @@ fn access_lists(rt: HostRuntime) {
     all_hold(&rt, rt.alloc(), Rows::Members(MATCHES_OF_IPV6), OF_IPV6);
 }
 
-/// A list of 32 entries is taken, and one of 33 isn't.
+/// A list of 64 entries is taken, and one of 65 isn't.
 #[test]
-fn at_most_32_entries(rt: HostRuntime) -> Result<(), Fail> {
+fn at_most_64_entries(rt: HostRuntime) -> Result<(), Fail> {
     all_hold(&rt, rt.alloc(), Rows::Members(ENTRIES), &most(rt.alloc())?);
     all_hold(
         &rt,

@@ -15,6 +15,6 @@ loop-index-preserved g c =
 pub overflow_add-marks : goal.overflow_add-marks
 overflow_add-marks g c =
     let all = map (meets_another (map g.T.Mitigates.live c.args.live.now) c.args.cuid.now) c.args.prefixes.now in
-    let fit : 2 ^ c.args.place * bits all < 2 ^ 64 = bits_fit c.args.place all (rw (length-map c.args.prefixes.now (meets_another (map g.T.Mitigates.live c.args.live.now) c.args.cuid.now)) c.requires) in
+    let fit : 2 ^ c.args.place * bits all < 2 ^ 128 = bits_fit c.args.place all (rw (length-map c.args.prefixes.now (meets_another (map g.T.Mitigates.live c.args.live.now) c.args.cuid.now)) c.requires) in
     let more = loop-index-preserved g c in
     omega (arith, fit, more)

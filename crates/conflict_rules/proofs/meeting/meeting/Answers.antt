@@ -18,7 +18,7 @@ loop-target-preserved g c = record {
 pub overflow_add-meeting : goal.overflow_add-meeting
 overflow_add-meeting g c =
     let all = map (meets_another (map g.T.Mitigates.live c.args.live.now) c.args.cuid.now) (resolved c.args.targets.now) in
-    let few : 0 + length all ≤ 64 = rw (length-map (resolved c.args.targets.now) (meets_another (map g.T.Mitigates.live c.args.live.now) c.args.cuid.now), resolved_count c.args.targets.now) (omega (arith, c.requires)) in
-    let fit : 2 ^ 0 * bits all < 2 ^ 64 = bits_fit 0 all few in
+    let few : 0 + length all ≤ 128 = rw (length-map (resolved c.args.targets.now) (meets_another (map g.T.Mitigates.live c.args.live.now) c.args.cuid.now), resolved_count c.args.targets.now) (omega (arith, c.requires)) in
+    let fit : 2 ^ 0 * bits all < 2 ^ 128 = bits_fit 0 all few in
     let more = (loop-target-preserved g c).marked in
     omega (arith, fit, more)

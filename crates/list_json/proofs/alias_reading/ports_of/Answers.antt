@@ -6,12 +6,13 @@ use Rattle.list_json.specs.Found.{found}
 use Rattle.list_json.specs.Steps.{items_in}
 use Rattle.list_json.proofs.Arrays.{one_more, few_read, not_read, all_read, fault_read, fails}
 use Rattle.list_json.proofs.alias_reading.ports_of.Goals as goal
+use Rattle.acl_lists.specs.declared.limits.TheConstants.{MAX_ITEMS}
 
 pub returns-in_default : goal.returns-in_default
-returns-in_default c = ap (items_in the.TargetPortRange 16 range_of) (ap found c.in_default.is) ∙ ap Ok (sym c.new.ensures)
+returns-in_default c = ap (items_in the.TargetPortRange MAX_ITEMS range_of) (ap found c.in_default.is) ∙ ap Ok (sym c.new.ensures)
 
 pub returns-in_default-few_items : goal.returns-in_default-few_items
-returns-in_default-few_items c = not_read the.TargetPortRange 16 range_of (view c.in-Some.value.now) (sym (ap found c.in-Some.is)) c.in_default-few_items.ensures
+returns-in_default-few_items c = not_read the.TargetPortRange MAX_ITEMS range_of (view c.in-Some.value.now) (sym (ap found c.in-Some.is)) c.in_default-few_items.ensures
 
 pub loop-item-preserved : goal.loop-item-preserved
 loop-item-preserved c = rw c.in_ok-push-in-Ok.ensures.ok (one_more range_of _ c.loop-item.item-index c.item-item.result c.loop-item.ports _ c.loop-item-test.true c.item-item.is (sym c.in-Ok.ensures) c.loop-item.invariant)
@@ -19,11 +20,11 @@ loop-item-preserved c = rw c.in_ok-push-in-Ok.ensures.ok (one_more range_of _ c.
 pub returns-in-Err : goal.returns-in-Err
 returns-in-Err c =
     fails c.in-Err.fault _ (
-    few_read the.TargetPortRange 16 range_of (view c.in-Some.value.now) (items_view c.in-Some-few_items.items.now) (sym (ap found c.in-Some.is)) c.in-Some-few_items.ensures
+    few_read the.TargetPortRange MAX_ITEMS range_of (view c.in-Some.value.now) (items_view c.in-Some-few_items.items.now) (sym (ap found c.in-Some.is)) c.in-Some-few_items.ensures
     ∙ fault_read range_of c.in-Some-few_items.items.now c.loop-item.item-index c.item-item.result c.loop-item.ports c.in-Err.fault c.loop-item-test.true c.item-item.is (sym c.in-Err.ensures) c.loop-item.invariant
     )
 
 pub returns : goal.returns
 returns c =
-    few_read the.TargetPortRange 16 range_of (view c.in-Some.value.now) (items_view c.in-Some-few_items.items.now) (sym (ap found c.in-Some.is)) c.in-Some-few_items.ensures
+    few_read the.TargetPortRange MAX_ITEMS range_of (view c.in-Some.value.now) (items_view c.in-Some-few_items.items.now) (sym (ap found c.in-Some.is)) c.in-Some-few_items.ensures
     ∙ all_read range_of c.in-Some-few_items.items.now c.loop-item.item-index c.loop-item.ports c.loop-item-test.false c.loop-item.invariant
