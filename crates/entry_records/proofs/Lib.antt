@@ -6,7 +6,10 @@ pub mod Parts
 pub mod Readers
 pub mod Prefixes
 pub mod Wholes
+pub mod Seals
 pub mod Within
 pub mod Places
 pub mod Answered
 pub mod Writings
+pub mod Lengths
+pub mod Upgrades

@@ -1,13 +1,13 @@
 -- Reading items one after the other, as a loop does.
-use Rattle.std.proofs.Common.{◌≡◌, ℕ, zero, suc, ◌+◌, ◌-◌, ◌*◌, ◌^◌, ◌<◌, ◌≤◌, Bool, true, false, if◌then◌else◌, take, drop, subst, List, [], ◌∷◌, ◌++◌, length, Ok, Err, refl, sym, ap, ◌∙◌, append_assoc, arith}
-use Rattle.std.proofs.lemmas.List.{append-nil}
+use Rattle.std.proofs.Common.{◌≡◌, ℕ, zero, suc, ◌+◌, ◌-◌, ◌*◌, ◌^◌, ◌<◌, ◌≤◌, Bool, true, false, if◌then◌else◌, take, drop, get_or, subst, List, [], ◌∷◌, ◌++◌, length, Ok, Err, refl, sym, ap, ◌∙◌, append_assoc, arith}
+use Rattle.std.proofs.lemmas.List.{append-nil, drop_more}
 use Rattle.std.specs.List.{list_all}
 use Rattle.std.proofs.lemmas.Nat.{pow-add}
 use Rattle.std.proofs.Math.Nat.{pow-le-pow_right}
 use native.Mathlib.Numerals.{unary_clauses}
 use Rattle.entry_records.specs.declared.fault.EntryFault.{EntryFault}
 use Rattle.entry_records.specs.declared.fault.EntryFault.TheVariants.{NotEntry, NoMemory}
-use Rattle.entry_records.specs.RecordReading.{Read, ◌>>=◌, Stops, prepended, items_at, byte_at, address_at, leads, targets_at, target_at}
+use Rattle.entry_records.specs.RecordReading.{Read, ◌>>=◌, Stops, second, prepended, items_at, byte_at, within_at, exactly_at, address_at, leads, targets_at, target_at}
 use Rattle.dots_history.specs.declared.put.Target.{Target}
 
 -- what was read before, and what is still read
@@ -155,3 +155,33 @@ unfolding targets_at
 targets_done n room end front rest total none h =
     let step : with_front front (targets_at n room end rest) ≡ Ok (front ++ [], rest) = rw none refl in
     sym h ∙ step ∙ ap (λ l. Ok (l, rest)) (append-nil front)
+
+-- ---- exactly these bytes
+
+seconds : {A B : Type 0} (a : A) (read : Read B) → made second (beside a read) ≡ read
+seconds a (Ok x) = refl
+seconds a (Err at) = refl
+
+none_left : (i : ℕ) (xs : List ℕ) → length xs ≤ i → drop i xs ≡ []
+none_left zero [] few = refl
+none_left (suc i) [] few = refl
+none_left zero (x ∷ xs) few = absurd (omega (arith, few))
+none_left (suc i) (x ∷ xs) few = none_left i xs (omega (arith, few))
+
+pub exactly_stop : (fault : EntryFault) (i end d : ℕ) (xs rest : List ℕ) (total : Read (Unit {0})) → i < length xs → Stops fault (within_at (get_or xs i d) (get_or xs i d) end rest)
+    → exactly_at (drop i xs) end rest ≡ total → Stops fault total
+unfolding exactly_at
+exactly_stop fault i end d xs rest total few stops h =
+    stops_then fault (within_at (get_or xs i d) (get_or xs i d) end rest) total (λ at bad. sym h ∙ ap (λ (l : List ℕ). exactly_at l end rest) (drop_more xs i d few) ∙ rw bad refl) stops
+
+pub exactly_go : (i end d v : ℕ) (xs rest after : List ℕ) (total : Read (Unit {0})) → i < length xs → within_at (get_or xs i d) (get_or xs i d) end rest ≡ Ok (v, after)
+    → exactly_at (drop i xs) end rest ≡ total → exactly_at (drop (i + 1) xs) end after ≡ total
+unfolding exactly_at
+exactly_go i end d v xs rest after total few good h =
+    let others = exactly_at (drop (i + 1) xs) end after in
+    let step : exactly_at (get_or xs i d ∷ drop (i + 1) xs) end rest ≡ made second (beside v others) = rw good refl in
+    sym (seconds v others) ∙ sym step ∙ sym (ap (λ (l : List ℕ). exactly_at l end rest) (drop_more xs i d few)) ∙ h
+
+pub exactly_done : (i end : ℕ) (xs rest : List ℕ) (total : Read (Unit {0})) → length xs ≤ i → exactly_at (drop i xs) end rest ≡ total → total ≡ Ok (tt, rest)
+unfolding exactly_at
+exactly_done i end xs rest total few h = sym h ∙ ap (λ (l : List ℕ). exactly_at l end rest) (none_left i xs few)

@@ -5,6 +5,8 @@ use Rattle.std.specs.List.{flat_map}
 use Rattle.std.specs.Int.{w16, w32, w64, to_be_bytes, from_be_bytes, cast_signed, cast_unsigned}
 use Rattle.std.proofs.lemmas.Nat.{be_bytes_8, from_be_bytes-to_be_bytes_8}
 use Rattle.std.proofs.lemmas.Int.{of_z-to_z}
+use Rattle.record_formats.specs.declared.format.Format.{Format}
+use Rattle.record_formats.specs.declared.format.Format.TheVariants.{One, Two}
 use Rattle.ip_scope.specs.declared.family.Family.{Family}
 use Rattle.ip_scope.specs.declared.family.Family.TheVariants.{V4, V6}
 use Rattle.ip_scope.specs.Prefix.{PrefixValue, IsPrefix}
@@ -26,8 +28,8 @@ use Rattle.dots_history.specs.declared.entry.MessageKey.TheVariants as key
 use Rattle.dots_history.specs.declared.put.Put.{Put}
 use Rattle.dots_history.specs.declared.put.Target.{Target}
 use Rattle.entry_records.specs.Values.{IsByte, IsName, IsRange, IfThere, IsTest, IsKey}
-use Rattle.entry_records.specs.Layout.{byte, counted, listed, optional, flag_number, prefix_bytes, ports_bytes, asked_bytes, alias_bytes, test_bytes, ace_bytes, family_number, activation_number, acl_bytes, target_bytes, put_bytes, values_bytes, config_bytes, put_number, change_number, change_fields, change_bytes, key_number, key_id, key_bytes, reply_bytes, record_bytes}
-use Rattle.entry_records.specs.RecordReading.{pair_at, both_at, second, made_at, prepended, number_at, within_at, bytes_at, time_of, time_at, visible_at, name_at, counted_at, list_at, optional_at, flag_at, prefix_at, ports_at, test_at, asked_from, asked_at, alias_from, alias_at, ace_from, ace_at, family_at, activation_of, activation_at, acl_from, acl_at, target_from, target_at, targets_at, all_targets_at, granted_at, put_from, put_at, values_from, values_at, config_from, config_at, fields_at, change_at, id_at, key_at, reply_at, entry_from, entry_at}
+use Rattle.entry_records.specs.Layout.{byte, counted, listed, optional, flag_number, prefix_bytes, ports_bytes, asked_bytes, alias_bytes, test_bytes, ace_bytes, family_number, activation_number, acl_bytes, target_bytes, trigger_bytes, put_bytes, values_bytes, config_bytes, put_number, change_number, change_fields, change_bytes, key_number, key_id, key_bytes, reply_bytes, body_bytes}
+use Rattle.entry_records.specs.RecordReading.{pair_at, both_at, second, made_at, prepended, number_at, within_at, bytes_at, time_of, time_at, visible_at, name_at, counted_at, list_at, optional_at, flag_at, prefix_at, ports_at, test_at, asked_from, asked_at, alias_from, alias_at, ace_from, ace_at, family_at, activation_of, activation_at, acl_from, acl_at, target_from, target_at, targets_at, all_targets_at, granted_at, trigger_at, put_from, put_at, values_from, values_at, config_from, config_at, fields_at, last_number, change_at, id_at, key_at, reply_at, entry_from, entry_at}
 use Rattle.entry_records.proofs.Readers.{AreBytes, IsReader, made_reader, pair_reader}
 use Rattle.entry_records.proofs.Fields.{IsWithin, within_reader, is_between, between_most, between_least, AtMost, AreSoMany, bytes_reader, byte_at_place, both_reader, two_reader, four_reader, eight_reader, bytes_of_8, list_reader, counted_reader}
 use Rattle.entry_records.proofs.Parts.{AreVisible, visible_reader, name_reader, optional_reader, flag_reader}
@@ -39,7 +41,7 @@ abbrev pub AskedTuple : Type 0
 AskedTuple = List PrefixValue × (List Ports × (List ℕ × (List (List ℕ) × List (List ℕ))))
 
 abbrev pub IsAskedTuple : ℕ → AskedTuple → Type 0
-IsAskedTuple most p = AtMost 16 IsPrefix p.0 × (AtMost 16 IsRange p.1.0 × (AtMost 16 IsByte p.1.1.0 × (AtMost 8 IsName p.1.1.1.0 × AtMost most IsName p.1.1.1.1)))
+IsAskedTuple most p = AtMost 32 IsPrefix p.0 × (AtMost 32 IsRange p.1.0 × (AtMost 32 IsByte p.1.1.0 × (AtMost 8 IsName p.1.1.1.0 × AtMost most IsName p.1.1.1.1)))
 
 abbrev pub asked_tuple : Asked → AskedTuple
 asked_tuple asked = (asked.prefixes, (asked.ports, (asked.protocols, (asked.names, asked.aliases))))
@@ -53,8 +55,8 @@ asked_tuple_bytes p = listed prefix_bytes p.0 ++ (listed ports_bytes p.1.0 ++ (c
 prefixes_reader : (most : ℕ) → most < 256 → IsReader (AtMost most IsPrefix) (listed prefix_bytes) (list_at most prefix_at)
 prefixes_reader most small = list_reader most IsPrefix prefix_bytes prefix_at small prefix_reader
 
-ranges_reader : IsReader (AtMost 16 IsRange) (listed ports_bytes) (list_at 16 ports_at)
-ranges_reader = list_reader 16 IsRange ports_bytes ports_at (omega arith) ports_reader
+ranges_reader : IsReader (AtMost 32 IsRange) (listed ports_bytes) (list_at 32 ports_at)
+ranges_reader = list_reader 32 IsRange ports_bytes ports_at (omega arith) ports_reader
 
 names_reader : (most : ℕ) → most < 256 → IsReader (AtMost most IsName) (listed counted) (list_at most name_at)
 names_reader most small = list_reader most IsName counted name_at small name_reader
@@ -62,13 +64,13 @@ names_reader most small = list_reader most IsName counted name_at small name_rea
 asked_reader : (most : ℕ) → most < 256 → IsReader (MayAsk most) asked_bytes (asked_at most)
 unfolding asked_at asked_bytes
 asked_reader most small =
-    made_reader (IsAskedTuple most) asked_tuple_bytes (both_at (list_at 16 prefix_at) (both_at (list_at 16 ports_at) (both_at (counted_at 16) (both_at (list_at 8 name_at) (list_at most name_at)))))
+    made_reader (IsAskedTuple most) asked_tuple_bytes (both_at (list_at 32 prefix_at) (both_at (list_at 32 ports_at) (both_at (counted_at 32) (both_at (list_at 8 name_at) (list_at most name_at)))))
     (MayAsk most) asked_bytes asked_from
     (λ p holds. (holds, refl))
     (λ asked holds. (asked_tuple asked, holds, refl))
-    (both_reader _ _ _ _ _ _ (prefixes_reader 16 (omega arith))
+    (both_reader _ _ _ _ _ _ (prefixes_reader 32 (omega arith))
     (both_reader _ _ _ _ _ _ ranges_reader
-    (both_reader _ _ _ _ _ _ (counted_reader 16 (omega arith))
+    (both_reader _ _ _ _ _ _ (counted_reader 32 (omega arith))
     (both_reader _ _ _ _ _ _ (names_reader 8 (omega arith)) (names_reader most small)))))
 
 abbrev pub MayStand : Alias → Type 0
@@ -153,18 +155,18 @@ abbrev acl_tuple : Acl → AclTuple
 acl_tuple acl = (acl.name, (acl.family, (acl.activation, acl.aces)))
 
 abbrev pub MayList : Acl → Type 0
-MayList acl = IsName acl.name × (Unit {0} × (Unit {0} × AtMost 32 MayEnter acl.aces))
+MayList acl = IsName acl.name × (Unit {0} × (Unit {0} × AtMost 64 MayEnter acl.aces))
 
 acl_reader : IsReader MayList acl_bytes acl_at
 unfolding acl_at acl_bytes
 acl_reader =
-    made_reader (λ (p : AclTuple). IsName p.0 × (Unit {0} × (Unit {0} × AtMost 32 MayEnter p.1.1.1))) (λ p. counted p.0 ++ (byte (family_number p.1.0) ++ (byte (activation_number p.1.1.0) ++ listed ace_bytes p.1.1.1))) (both_at name_at (both_at family_at (both_at activation_at (list_at 32 ace_at))))
+    made_reader (λ (p : AclTuple). IsName p.0 × (Unit {0} × (Unit {0} × AtMost 64 MayEnter p.1.1.1))) (λ p. counted p.0 ++ (byte (family_number p.1.0) ++ (byte (activation_number p.1.1.0) ++ listed ace_bytes p.1.1.1))) (both_at name_at (both_at family_at (both_at activation_at (list_at 64 ace_at))))
     MayList acl_bytes acl_from
     (λ p holds. (holds, refl))
     (λ acl holds. (acl_tuple acl, holds, refl))
     (both_reader _ _ _ _ _ _ name_reader
     (both_reader _ _ _ _ _ _ family_reader
-    (both_reader _ _ _ _ _ _ activation_reader (list_reader 32 MayEnter ace_bytes ace_at (omega arith) ace_reader))))
+    (both_reader _ _ _ _ _ _ activation_reader (list_reader 64 MayEnter ace_bytes ace_at (omega arith) ace_reader))))
 
 -- ---- mitigations
 
@@ -172,16 +174,16 @@ abbrev TargetTuple : Type 0
 TargetTuple = List PrefixValue × (List Ports × List ℕ)
 
 abbrev pub MayAim : ℕ → Target → Type 0
-MayAim room target = AtMost room IsPrefix target.prefixes × (AtMost 16 IsRange target.ports × AtMost 16 IsByte target.protocols)
+MayAim room target = AtMost room IsPrefix target.prefixes × (AtMost 32 IsRange target.ports × AtMost 32 IsByte target.protocols)
 
 target_reader : (room : ℕ) → room < 256 → IsReader (MayAim room) target_bytes (target_at room)
 unfolding target_at target_bytes
 target_reader room small =
-    made_reader (λ (p : TargetTuple). AtMost room IsPrefix p.0 × (AtMost 16 IsRange p.1.0 × AtMost 16 IsByte p.1.1)) (λ p. listed prefix_bytes p.0 ++ (listed ports_bytes p.1.0 ++ counted p.1.1)) (both_at (list_at room prefix_at) (both_at (list_at 16 ports_at) (counted_at 16)))
+    made_reader (λ (p : TargetTuple). AtMost room IsPrefix p.0 × (AtMost 32 IsRange p.1.0 × AtMost 32 IsByte p.1.1)) (λ p. listed prefix_bytes p.0 ++ (listed ports_bytes p.1.0 ++ counted p.1.1)) (both_at (list_at room prefix_at) (both_at (list_at 32 ports_at) (counted_at 32)))
     (MayAim room) target_bytes target_from
     (λ p holds. (holds, refl))
     (λ target holds. ((target.prefixes, (target.ports, target.protocols)), holds, refl))
-    (both_reader _ _ _ _ _ _ (prefixes_reader room small) (both_reader _ _ _ _ _ _ ranges_reader (counted_reader 16 (omega arith))))
+    (both_reader _ _ _ _ _ _ (prefixes_reader room small) (both_reader _ _ _ _ _ _ ranges_reader (counted_reader 32 (omega arith))))
 
 -- so many targets, with at most so many prefixes together
 abbrev pub MayAimAll : ℕ → ℕ → List Target → Type 0
@@ -210,7 +212,7 @@ targets_reader (suc n) room small =
     (target_reader room small) (λ target holds. targets_reader n (room - length target.prefixes) (omega (arith, small))))
 
 abbrev pub AreAimed : List Target → Type 0
-AreAimed targets = (length targets ≤ 9) × MayAimAll (length targets) 64 targets
+AreAimed targets = (length targets ≤ 9) × MayAimAll (length targets) 128 targets
 
 aimed_count : (n room : ℕ) (targets : List Target) → MayAimAll n room targets → length targets ≡ n
 aimed_count zero room [] holds = refl
@@ -221,15 +223,15 @@ aimed_count (suc n) room (target ∷ targets) holds = ap suc (aimed_count n (roo
 all_targets_reader : IsReader AreAimed (listed target_bytes) all_targets_at
 unfolding all_targets_at
 all_targets_reader =
-    made_reader (λ p. IsWithin 0 9 p.0 × MayAimAll p.0 64 p.1) (λ p. byte p.0 ++ flat_map target_bytes p.1) (pair_at (within_at 0 9) (λ n. targets_at n 64))
+    made_reader (λ p. IsWithin 0 9 p.0 × MayAimAll p.0 128 p.1) (λ p. byte p.0 ++ flat_map target_bytes p.1) (pair_at (within_at 0 9) (λ n. targets_at n 128))
     AreAimed (listed target_bytes) second
-    (λ p holds. let count = aimed_count p.0 64 p.1 holds.1 in (
-      (subst (λ (n : ℕ). n ≤ 9) (sym count) (between_most 0 9 p.0 holds.0.0), subst (λ (n : ℕ). MayAimAll n 64 p.1) (sym count) holds.1),
+    (λ p holds. let count = aimed_count p.0 128 p.1 holds.1 in (
+      (subst (λ (n : ℕ). n ≤ 9) (sym count) (between_most 0 9 p.0 holds.0.0), subst (λ (n : ℕ). MayAimAll n 128 p.1) (sym count) holds.1),
       ap (λ (n : ℕ). n ∷ flat_map target_bytes p.1) count,
     ))
     (λ targets holds. ((length targets, targets), ((is_between 0 9 (length targets) (omega arith) holds.0, omega (arith, holds.0)), holds.1), refl))
-    (pair_reader (IsWithin 0 9) byte (within_at 0 9) (λ n. MayAimAll n 64) (λ _. flat_map target_bytes) (λ n. targets_at n 64)
-    (within_reader 0 9 (omega arith) (omega arith)) (λ n holds. targets_reader n 64 (omega arith)))
+    (pair_reader (IsWithin 0 9) byte (within_at 0 9) (λ n. MayAimAll n 128) (λ _. flat_map target_bytes) (λ n. targets_at n 128)
+    (within_reader 0 9 (omega arith) (omega arith)) (λ n holds. targets_reader n 128 (omega arith)))
 
 abbrev pub IsSigned : ℤ → Type 0
 IsSigned z = (n : ℕ) × (n < 2 ^ 32) × (cast_signed w32 n ≡ z)
@@ -242,35 +244,41 @@ granted_reader =
     four_reader
 
 abbrev PutTuple : Type 0
-PutTuple = ℕ × (Asked × (List Target × (ℤ × ℕ)))
+PutTuple = ℕ × (Asked × (List Target × (ℤ × (ℕ × Bool))))
 
 abbrev put_tuple : Put → PutTuple
-put_tuple put = (put.mid, (put.asked, (put.targets, (put.granted, put.start))))
+put_tuple put = (put.mid, (put.asked, (put.targets, (put.granted, (put.start, put.trigger)))))
 
-abbrev put_with : Put → Bool → Put
-put_with put trigger = put_from trigger (put_tuple put)
-
--- of the fields; the trigger isn't one
+-- of the fields but the trigger
 abbrev pub MayPut : Put → Type 0
 MayPut put = (put.mid < 2 ^ 32) × (MayAsk 8 put.asked × (AreAimed put.targets × (IsSigned put.granted × (put.start < 2 ^ 64))))
 
--- and with this trigger
-abbrev MayPutWith : Bool → Put → Type 0
-MayPutWith trigger put = MayPut put × (put.trigger ≡ trigger)
+-- which trigger a mitigation has where the number of the change has this one
+abbrev HasTrigger : Format → Bool → Bool → Type 0
+HasTrigger One numbered trigger = numbered ≡ trigger
+HasTrigger Two numbered trigger = Unit {0}
 
-put_reader : (trigger : Bool) → IsReader (MayPutWith trigger) put_bytes (put_at trigger)
+trigger_reader : (format : Format) (numbered : Bool) → IsReader (HasTrigger format numbered) (trigger_bytes format) (trigger_at format numbered)
+trigger_reader One numbered = constant_reader (HasTrigger One numbered) (trigger_bytes One) numbered refl refl (λ trigger is. is)
+trigger_reader Two numbered = flag_reader
+
+abbrev MayPutWith : Format → Bool → Put → Type 0
+MayPutWith format numbered put = MayPut put × HasTrigger format numbered put.trigger
+
+put_reader : (format : Format) (numbered : Bool) → IsReader (MayPutWith format numbered) (put_bytes format) (put_at format numbered)
 unfolding put_at put_bytes
-put_reader trigger =
-    made_reader (λ (p : PutTuple). (p.0 < 2 ^ 32) × (MayAsk 8 p.1.0 × (AreAimed p.1.1.0 × (IsSigned p.1.1.1.0 × (p.1.1.1.1 < 2 ^ 64)))))
-    (λ p. to_be_bytes w32 p.0 ++ (asked_bytes p.1.0 ++ (listed target_bytes p.1.1.0 ++ (to_be_bytes w32 (cast_unsigned w32 p.1.1.1.0) ++ to_be_bytes w64 p.1.1.1.1))))
-    (both_at (number_at w32) (both_at (asked_at 8) (both_at all_targets_at (both_at granted_at (number_at w64)))))
-    (MayPutWith trigger) put_bytes (put_from trigger)
-    (λ p holds. ((holds, refl), refl))
-    (λ put holds. (put_tuple put, holds.0, ap (put_with put) (sym holds.1)))
+put_reader format numbered =
+    made_reader (λ (p : PutTuple). (p.0 < 2 ^ 32) × (MayAsk 8 p.1.0 × (AreAimed p.1.1.0 × (IsSigned p.1.1.1.0 × ((p.1.1.1.1.0 < 2 ^ 64) × HasTrigger format numbered p.1.1.1.1.1)))))
+    (λ p. to_be_bytes w32 p.0 ++ (asked_bytes p.1.0 ++ (listed target_bytes p.1.1.0 ++ (to_be_bytes w32 (cast_unsigned w32 p.1.1.1.0) ++ (to_be_bytes w64 p.1.1.1.1.0 ++ trigger_bytes format p.1.1.1.1.1)))))
+    (both_at (number_at w32) (both_at (asked_at 8) (both_at all_targets_at (both_at granted_at (both_at (number_at w64) (trigger_at format numbered))))))
+    (MayPutWith format numbered) (put_bytes format) put_from
+    (λ p holds. (((holds.0, (holds.1.0, (holds.1.1.0, (holds.1.1.1.0, holds.1.1.1.1.0)))), holds.1.1.1.1.1), refl))
+    (λ put holds. (put_tuple put, (holds.0.0, (holds.0.1.0, (holds.0.1.1.0, (holds.0.1.1.1.0, (holds.0.1.1.1.1, holds.1))))), refl))
     (both_reader _ _ _ _ _ _ four_reader
     (both_reader _ _ _ _ _ _ (asked_reader 8 (omega arith))
     (both_reader _ _ _ _ _ _ all_targets_reader
-    (both_reader _ _ _ _ _ _ granted_reader eight_reader))))
+    (both_reader _ _ _ _ _ _ granted_reader
+    (both_reader _ _ _ _ _ _ eight_reader (trigger_reader format numbered))))))
 
 -- ---- session configurations
 
@@ -319,42 +327,43 @@ config_reader =
 
 -- ---- changes
 
-abbrev ChangeOf : ℕ → Change → Type 0
-ChangeOf zero c = ⊥
-ChangeOf (suc zero) c = (put : Put) × (put.trigger ≡ true) × (change.Put put ≡ c)
-ChangeOf (suc (suc zero)) c = (mid : ℕ) × (change.Withdraw mid ≡ c)
-ChangeOf (suc (suc (suc zero))) c = (alias : Alias) × (change.SetAlias alias ≡ c)
-ChangeOf (suc (suc (suc (suc zero)))) c = (name : List ℕ) × (change.DropAlias name ≡ c)
-ChangeOf (suc (suc (suc (suc (suc zero))))) c = (acl : Acl) × (change.SetAcl acl ≡ c)
-ChangeOf (suc (suc (suc (suc (suc (suc zero)))))) c = (name : List ℕ) × (change.DropAcl name ≡ c)
-ChangeOf (suc (suc (suc (suc (suc (suc (suc zero))))))) c = change.Register ≡ c
-ChangeOf (suc (suc (suc (suc (suc (suc (suc (suc zero)))))))) c = change.Deregister ≡ c
-ChangeOf (suc (suc (suc (suc (suc (suc (suc (suc (suc zero))))))))) c = (p : ℕ × Config) × (change.SetConfig p.0 p.1 ≡ c)
-ChangeOf (suc (suc (suc (suc (suc (suc (suc (suc (suc (suc zero)))))))))) c = change.ClearConfig ≡ c
-ChangeOf (suc (suc (suc (suc (suc (suc (suc (suc (suc (suc (suc zero))))))))))) c = change.Lost ≡ c
-ChangeOf (suc (suc (suc (suc (suc (suc (suc (suc (suc (suc (suc (suc zero)))))))))))) c = change.Back ≡ c
-ChangeOf (suc (suc (suc (suc (suc (suc (suc (suc (suc (suc (suc (suc (suc n))))))))))))) c = (put : Put) × (put.trigger ≡ false) × (change.Put put ≡ c)
+abbrev ChangeOf : Format → ℕ → Change → Type 0
+ChangeOf format zero c = ⊥
+ChangeOf format (suc zero) c = (put : Put) × HasTrigger format true put.trigger × (change.Put put ≡ c)
+ChangeOf format (suc (suc zero)) c = (mid : ℕ) × (change.Withdraw mid ≡ c)
+ChangeOf format (suc (suc (suc zero))) c = (alias : Alias) × (change.SetAlias alias ≡ c)
+ChangeOf format (suc (suc (suc (suc zero)))) c = (name : List ℕ) × (change.DropAlias name ≡ c)
+ChangeOf format (suc (suc (suc (suc (suc zero))))) c = (acl : Acl) × (change.SetAcl acl ≡ c)
+ChangeOf format (suc (suc (suc (suc (suc (suc zero)))))) c = (name : List ℕ) × (change.DropAcl name ≡ c)
+ChangeOf format (suc (suc (suc (suc (suc (suc (suc zero))))))) c = change.Register ≡ c
+ChangeOf format (suc (suc (suc (suc (suc (suc (suc (suc zero)))))))) c = change.Deregister ≡ c
+ChangeOf format (suc (suc (suc (suc (suc (suc (suc (suc (suc zero))))))))) c = (p : ℕ × Config) × (change.SetConfig p.0 p.1 ≡ c)
+ChangeOf format (suc (suc (suc (suc (suc (suc (suc (suc (suc (suc zero)))))))))) c = change.ClearConfig ≡ c
+ChangeOf format (suc (suc (suc (suc (suc (suc (suc (suc (suc (suc (suc zero))))))))))) c = change.Lost ≡ c
+ChangeOf format (suc (suc (suc (suc (suc (suc (suc (suc (suc (suc (suc (suc zero)))))))))))) c = change.Back ≡ c
+ChangeOf format (suc (suc (suc (suc (suc (suc (suc (suc (suc (suc (suc (suc (suc n))))))))))))) c = (put : Put) × HasTrigger format false put.trigger × (change.Put put ≡ c)
 
-put_of_number : (put : Put) (trigger : Bool) → put.trigger ≡ trigger → ChangeOf (put_number trigger) (change.Put put)
-put_of_number put true is = (put, is, refl)
-put_of_number put false is = (put, is, refl)
+put_of_number : (format : Format) (put : Put) (trigger : Bool) → put.trigger ≡ trigger → ChangeOf format (put_number format trigger) (change.Put put)
+put_of_number One put true is = (put, sym is, refl)
+put_of_number One put false is = (put, sym is, refl)
+put_of_number Two put trigger is = (put, tt, refl)
 
-change_of : (c : Change) → ChangeOf (change_number c) c
-change_of (change.Put put) = put_of_number put put.trigger refl
-change_of (change.Withdraw mid) = (mid, refl)
-change_of (change.SetAlias alias) = (alias, refl)
-change_of (change.DropAlias name) = (name, refl)
-change_of (change.SetAcl acl) = (acl, refl)
-change_of (change.DropAcl name) = (name, refl)
-change_of change.Register = refl
-change_of change.Deregister = refl
-change_of (change.SetConfig sid config) = ((sid, config), refl)
-change_of change.ClearConfig = refl
-change_of change.Lost = refl
-change_of change.Back = refl
+change_of : (format : Format) (c : Change) → ChangeOf format (change_number format c) c
+change_of format (change.Put put) = put_of_number format put put.trigger refl
+change_of format (change.Withdraw mid) = (mid, refl)
+change_of format (change.SetAlias alias) = (alias, refl)
+change_of format (change.DropAlias name) = (name, refl)
+change_of format (change.SetAcl acl) = (acl, refl)
+change_of format (change.DropAcl name) = (name, refl)
+change_of format change.Register = refl
+change_of format change.Deregister = refl
+change_of format (change.SetConfig sid config) = ((sid, config), refl)
+change_of format change.ClearConfig = refl
+change_of format change.Lost = refl
+change_of format change.Back = refl
 
-change_is : (n : ℕ) (c : Change) → change_number c ≡ n → ChangeOf n c
-change_is n c is = subst (λ (k : ℕ). ChangeOf k c) is (change_of c)
+change_is : (format : Format) (n : ℕ) (c : Change) → change_number format c ≡ n → ChangeOf format n c
+change_is format n c is = subst (λ (k : ℕ). ChangeOf format k c) is (change_of format c)
 
 abbrev pub MayChange : Change → Type 0
 MayChange (change.Put put) = MayPut put
@@ -370,69 +379,96 @@ MayChange change.ClearConfig = Unit {0}
 MayChange change.Lost = Unit {0}
 MayChange change.Back = Unit {0}
 
-abbrev IsChangeOf : ℕ → Change → Type 0
-IsChangeOf n c = MayChange c × (change_number c ≡ n)
+abbrev IsChangeOf : Format → ℕ → Change → Type 0
+IsChangeOf format n c = MayChange c × (change_number format c ≡ n)
 
 set_config_reader : IsReader (λ (p : ℕ × Config). (p.0 < 2 ^ 32) × MaySet p.1) (λ p. to_be_bytes w32 p.0 ++ config_bytes p.1) (both_at (number_at w32) config_at)
 set_config_reader = both_reader _ _ _ _ _ _ four_reader config_reader
 
--- of the two numbers of a mitigation, that of this trigger
-put_fields_reader : (trigger : Bool) → ((c : Change) → change_number c ≡ put_number trigger → (put : Put) × (put.trigger ≡ trigger) × (change.Put put ≡ c))
-    → IsReader (IsChangeOf (put_number trigger)) change_fields (made_at change.Put (put_at trigger))
+-- A mitigation has this trigger where the number of the change is that of a mitigation with it.
+numbered_is : (format : Format) (numbered trigger : Bool) → HasTrigger format numbered trigger → put_number format trigger ≡ put_number format numbered
+numbered_is One numbered trigger is = ap (put_number One) (sym is)
+numbered_is Two numbered trigger is = refl
+
+put_fields_reader : (format : Format) (numbered : Bool) → ((c : Change) → change_number format c ≡ put_number format numbered → (put : Put) × HasTrigger format numbered put.trigger × (change.Put put ≡ c))
+    → IsReader (IsChangeOf format (put_number format numbered)) (change_fields format) (made_at change.Put (put_at format numbered))
 unfolding change_fields
-put_fields_reader trigger back =
-    made_reader (MayPutWith trigger) put_bytes (put_at trigger) (IsChangeOf (put_number trigger)) change_fields change.Put
-    (λ put holds. ((holds.0, ap put_number holds.1), refl))
+put_fields_reader format numbered back =
+    made_reader (MayPutWith format numbered) (put_bytes format) (put_at format numbered) (IsChangeOf format (put_number format numbered)) (change_fields format) change.Put
+    (λ put holds. ((holds.0, numbered_is format numbered put.trigger holds.1), refl))
     (λ c holds. let of = back c holds.1 in (of.0, (subst MayChange (sym of.2) holds.0, of.1), of.2))
-    (put_reader trigger)
+    (put_reader format numbered)
 
-fields_reader : (n : ℕ) → IsWithin 1 13 n → IsReader (IsChangeOf n) change_fields (fields_at n)
+-- a mitigation of the least number
+first_put_reader : (format : Format) → IsReader (IsChangeOf format 1) (change_fields format) (made_at change.Put (put_at format true))
+first_put_reader One = put_fields_reader One true (change_is One 1)
+first_put_reader Two = put_fields_reader Two true (change_is Two 1)
+
+-- a mitigation of the greatest
+last_put_reader : (format : Format) → IsWithin 1 (last_number format) 13 → IsReader (IsChangeOf format 13) (change_fields format) (made_at change.Put (put_at format false))
+last_put_reader One some = put_fields_reader One false (change_is One 13)
+last_put_reader Two some = absurd (omega (arith, between_most 1 12 13 some.0))
+
+last_small : (format : Format) → last_number format ≤ 13
+last_small One = omega arith
+last_small Two = omega arith
+
+fields_reader : (format : Format) (n : ℕ) → IsWithin 1 (last_number format) n → IsReader (IsChangeOf format n) (change_fields format) (fields_at format n)
 unfolding fields_at change_fields
-fields_reader zero some = absurd (omega (arith, between_least 1 13 0 some.0))
-fields_reader (suc zero) some = put_fields_reader true (change_is 1)
-fields_reader (suc (suc zero)) some = variant_reader (λ (mid : ℕ). mid < 2 ^ 32) (to_be_bytes w32) (number_at w32) MayChange change_number change_fields 2 change.Withdraw (λ a holds. holds) (λ a holds. holds) (λ a. refl) (λ a. refl) (change_is 2) four_reader
-fields_reader (suc (suc (suc zero))) some = variant_reader MayStand alias_bytes alias_at MayChange change_number change_fields 3 change.SetAlias (λ a holds. holds) (λ a holds. holds) (λ a. refl) (λ a. refl) (change_is 3) alias_reader
-fields_reader (suc (suc (suc (suc zero)))) some = variant_reader IsName counted name_at MayChange change_number change_fields 4 change.DropAlias (λ a holds. holds) (λ a holds. holds) (λ a. refl) (λ a. refl) (change_is 4) name_reader
-fields_reader (suc (suc (suc (suc (suc zero))))) some = variant_reader MayList acl_bytes acl_at MayChange change_number change_fields 5 change.SetAcl (λ a holds. holds) (λ a holds. holds) (λ a. refl) (λ a. refl) (change_is 5) acl_reader
-fields_reader (suc (suc (suc (suc (suc (suc zero)))))) some = variant_reader IsName counted name_at MayChange change_number change_fields 6 change.DropAcl (λ a holds. holds) (λ a holds. holds) (λ a. refl) (λ a. refl) (change_is 6) name_reader
-fields_reader (suc (suc (suc (suc (suc (suc (suc zero))))))) some = constant_reader (IsChangeOf 7) change_fields change.Register (tt, refl) refl (λ c holds. change_is 7 c holds.1)
-fields_reader (suc (suc (suc (suc (suc (suc (suc (suc zero)))))))) some = constant_reader (IsChangeOf 8) change_fields change.Deregister (tt, refl) refl (λ c holds. change_is 8 c holds.1)
-fields_reader (suc (suc (suc (suc (suc (suc (suc (suc (suc zero))))))))) some =
-    variant_reader (λ (p : ℕ × Config). (p.0 < 2 ^ 32) × MaySet p.1) (λ p. to_be_bytes w32 p.0 ++ config_bytes p.1) (both_at (number_at w32) config_at) MayChange change_number change_fields 9 (λ p. change.SetConfig p.0 p.1)
-    (λ a holds. holds) (λ a holds. holds) (λ a. refl) (λ a. refl) (change_is 9) set_config_reader
-fields_reader (suc (suc (suc (suc (suc (suc (suc (suc (suc (suc zero)))))))))) some = constant_reader (IsChangeOf 10) change_fields change.ClearConfig (tt, refl) refl (λ c holds. change_is 10 c holds.1)
-fields_reader (suc (suc (suc (suc (suc (suc (suc (suc (suc (suc (suc zero))))))))))) some = constant_reader (IsChangeOf 11) change_fields change.Lost (tt, refl) refl (λ c holds. change_is 11 c holds.1)
-fields_reader (suc (suc (suc (suc (suc (suc (suc (suc (suc (suc (suc (suc zero)))))))))))) some = constant_reader (IsChangeOf 12) change_fields change.Back (tt, refl) refl (λ c holds. change_is 12 c holds.1)
-fields_reader (suc (suc (suc (suc (suc (suc (suc (suc (suc (suc (suc (suc (suc zero))))))))))))) some = put_fields_reader false (change_is 13)
-fields_reader (suc (suc (suc (suc (suc (suc (suc (suc (suc (suc (suc (suc (suc (suc n)))))))))))))) some = absurd (omega (arith, between_most 1 13 (suc (suc (suc (suc (suc (suc (suc (suc (suc (suc (suc (suc (suc (suc n)))))))))))))) some.0))
+fields_reader format zero some = absurd (omega (arith, between_least 1 (last_number format) 0 some.0))
+fields_reader format (suc zero) some = first_put_reader format
+fields_reader format (suc (suc zero)) some = variant_reader (λ (mid : ℕ). mid < 2 ^ 32) (to_be_bytes w32) (number_at w32) MayChange (change_number format) (change_fields format) 2 change.Withdraw (λ a holds. holds) (λ a holds. holds) (λ a. refl) (λ a. refl) (change_is format 2) four_reader
+fields_reader format (suc (suc (suc zero))) some = variant_reader MayStand alias_bytes alias_at MayChange (change_number format) (change_fields format) 3 change.SetAlias (λ a holds. holds) (λ a holds. holds) (λ a. refl) (λ a. refl) (change_is format 3) alias_reader
+fields_reader format (suc (suc (suc (suc zero)))) some = variant_reader IsName counted name_at MayChange (change_number format) (change_fields format) 4 change.DropAlias (λ a holds. holds) (λ a holds. holds) (λ a. refl) (λ a. refl) (change_is format 4) name_reader
+fields_reader format (suc (suc (suc (suc (suc zero))))) some = variant_reader MayList acl_bytes acl_at MayChange (change_number format) (change_fields format) 5 change.SetAcl (λ a holds. holds) (λ a holds. holds) (λ a. refl) (λ a. refl) (change_is format 5) acl_reader
+fields_reader format (suc (suc (suc (suc (suc (suc zero)))))) some = variant_reader IsName counted name_at MayChange (change_number format) (change_fields format) 6 change.DropAcl (λ a holds. holds) (λ a holds. holds) (λ a. refl) (λ a. refl) (change_is format 6) name_reader
+fields_reader format (suc (suc (suc (suc (suc (suc (suc zero))))))) some = constant_reader (IsChangeOf format 7) (change_fields format) change.Register (tt, refl) refl (λ c holds. change_is format 7 c holds.1)
+fields_reader format (suc (suc (suc (suc (suc (suc (suc (suc zero)))))))) some = constant_reader (IsChangeOf format 8) (change_fields format) change.Deregister (tt, refl) refl (λ c holds. change_is format 8 c holds.1)
+fields_reader format (suc (suc (suc (suc (suc (suc (suc (suc (suc zero))))))))) some =
+    variant_reader (λ (p : ℕ × Config). (p.0 < 2 ^ 32) × MaySet p.1) (λ p. to_be_bytes w32 p.0 ++ config_bytes p.1) (both_at (number_at w32) config_at) MayChange (change_number format) (change_fields format) 9 (λ p. change.SetConfig p.0 p.1)
+    (λ a holds. holds) (λ a holds. holds) (λ a. refl) (λ a. refl) (change_is format 9) set_config_reader
+fields_reader format (suc (suc (suc (suc (suc (suc (suc (suc (suc (suc zero)))))))))) some = constant_reader (IsChangeOf format 10) (change_fields format) change.ClearConfig (tt, refl) refl (λ c holds. change_is format 10 c holds.1)
+fields_reader format (suc (suc (suc (suc (suc (suc (suc (suc (suc (suc (suc zero))))))))))) some = constant_reader (IsChangeOf format 11) (change_fields format) change.Lost (tt, refl) refl (λ c holds. change_is format 11 c holds.1)
+fields_reader format (suc (suc (suc (suc (suc (suc (suc (suc (suc (suc (suc (suc zero)))))))))))) some = constant_reader (IsChangeOf format 12) (change_fields format) change.Back (tt, refl) refl (λ c holds. change_is format 12 c holds.1)
+fields_reader format (suc (suc (suc (suc (suc (suc (suc (suc (suc (suc (suc (suc (suc zero))))))))))))) some = last_put_reader format some
+fields_reader format (suc (suc (suc (suc (suc (suc (suc (suc (suc (suc (suc (suc (suc (suc n)))))))))))))) some =
+    absurd (omega (arith, last_small format, between_most 1 (last_number format) (suc (suc (suc (suc (suc (suc (suc (suc (suc (suc (suc (suc (suc (suc n)))))))))))))) some.0))
 
-put_small : (trigger : Bool) → (1 ≤ put_number trigger) × (put_number trigger ≤ 13)
-put_small true = (omega arith, omega arith)
-put_small false = (omega arith, omega arith)
+last_least : (format : Format) → 12 ≤ last_number format
+last_least One = omega arith
+last_least Two = omega arith
 
-change_small : (c : Change) → (1 ≤ change_number c) × (change_number c ≤ 13)
-change_small (change.Put put) = put_small put.trigger
-change_small (change.Withdraw mid) = (omega arith, omega arith)
-change_small (change.SetAlias alias) = (omega arith, omega arith)
-change_small (change.DropAlias name) = (omega arith, omega arith)
-change_small (change.SetAcl acl) = (omega arith, omega arith)
-change_small (change.DropAcl name) = (omega arith, omega arith)
-change_small change.Register = (omega arith, omega arith)
-change_small change.Deregister = (omega arith, omega arith)
-change_small (change.SetConfig sid config) = (omega arith, omega arith)
-change_small change.ClearConfig = (omega arith, omega arith)
-change_small change.Lost = (omega arith, omega arith)
-change_small change.Back = (omega arith, omega arith)
+put_small : (format : Format) (trigger : Bool) → (1 ≤ put_number format trigger) × (put_number format trigger ≤ last_number format)
+put_small One true = (omega arith, omega arith)
+put_small One false = (omega arith, omega arith)
+put_small Two trigger = (omega arith, omega arith)
 
-change_reader : IsReader MayChange change_bytes change_at
+change_small : (format : Format) (c : Change) → (1 ≤ change_number format c) × (change_number format c ≤ last_number format)
+change_small format (change.Put put) = put_small format put.trigger
+change_small format (change.Withdraw mid) = (omega arith, omega (arith, last_least format))
+change_small format (change.SetAlias alias) = (omega arith, omega (arith, last_least format))
+change_small format (change.DropAlias name) = (omega arith, omega (arith, last_least format))
+change_small format (change.SetAcl acl) = (omega arith, omega (arith, last_least format))
+change_small format (change.DropAcl name) = (omega arith, omega (arith, last_least format))
+change_small format change.Register = (omega arith, omega (arith, last_least format))
+change_small format change.Deregister = (omega arith, omega (arith, last_least format))
+change_small format (change.SetConfig sid config) = (omega arith, omega (arith, last_least format))
+change_small format change.ClearConfig = (omega arith, omega (arith, last_least format))
+change_small format change.Lost = (omega arith, omega (arith, last_least format))
+change_small format change.Back = (omega arith, omega (arith, last_least format))
+
+change_reader : (format : Format) → IsReader MayChange (change_bytes format) (change_at format)
 unfolding change_at
-change_reader =
-    made_reader (λ p. IsWithin 1 13 p.0 × IsChangeOf p.0 p.1) (λ p. byte p.0 ++ change_fields p.1) (pair_at (within_at 1 13) fields_at)
-    MayChange change_bytes second
-    (λ p holds. (holds.1.0, ap (λ (n : ℕ). n ∷ change_fields p.1) holds.1.1))
-    (λ c is. ((change_number c, c), ((is_between 1 13 (change_number c) (change_small c).0 (change_small c).1, omega (arith, (change_small c).1)), (is, refl)), refl))
-    (pair_reader (IsWithin 1 13) byte (within_at 1 13) IsChangeOf (λ _. change_fields) fields_at
-    (within_reader 1 13 (omega arith) (omega arith)) fields_reader)
+change_reader format =
+    let last = last_number format in
+    made_reader (λ p. IsWithin 1 last p.0 × IsChangeOf format p.0 p.1) (λ p. byte p.0 ++ change_fields format p.1) (pair_at (within_at 1 last) (fields_at format))
+    MayChange (change_bytes format) second
+    (λ p holds. (holds.1.0, ap (λ (n : ℕ). n ∷ change_fields format p.1) holds.1.1))
+    (λ c is.
+    let small = change_small format c in
+    ((change_number format c, c), ((is_between 1 last (change_number format c) small.0 small.1, omega (arith, small.1, last_small format)), (is, refl)), refl))
+    (pair_reader (IsWithin 1 last) byte (within_at 1 last) (IsChangeOf format) (λ _. change_fields format) (fields_at format)
+    (within_reader 1 last (omega (arith, last_least format)) (omega (arith, last_small format))) (fields_reader format))
 
 -- ---- keys, replies and times
 
@@ -548,18 +584,18 @@ IsEntryTuple p = IsTime p.0 × ((p.1.0 < 2 ^ 32) × ((p.1.1.0 < 2 ^ 16) × (AreV
 abbrev entry_tuple : Entry → EntryTuple
 entry_tuple e = (e.time, (e.peer, (e.domain, (e.cuid, (e.key, (e.reply, e.change))))))
 
-abbrev entry_tuple_bytes : EntryTuple → List ℕ
-entry_tuple_bytes p = to_be_bytes w64 p.0 ++ (to_be_bytes w32 p.1.0 ++ (to_be_bytes w16 p.1.1.0 ++ (counted p.1.1.1.0 ++ (key_bytes p.1.1.1.1.0 ++ (reply_bytes p.1.1.1.1.1.0 ++ change_bytes p.1.1.1.1.1.1)))))
+abbrev entry_tuple_bytes : Format → EntryTuple → List ℕ
+entry_tuple_bytes format p = to_be_bytes w64 p.0 ++ (to_be_bytes w32 p.1.0 ++ (to_be_bytes w16 p.1.1.0 ++ (counted p.1.1.1.0 ++ (key_bytes p.1.1.1.1.0 ++ (reply_bytes p.1.1.1.1.1.0 ++ change_bytes format p.1.1.1.1.1.1)))))
 
 -- what the parts of a record say of the entry
 abbrev pub MayBe : Entry → Type 0
 MayBe e = IsEntryTuple (entry_tuple e)
 
-pub entry_reader : IsReader MayBe record_bytes entry_at
-unfolding entry_at record_bytes
-entry_reader =
-    made_reader IsEntryTuple entry_tuple_bytes (both_at time_at (both_at (number_at w32) (both_at (number_at w16) (both_at (visible_at 0 64) (both_at key_at (both_at reply_at change_at))))))
-    MayBe record_bytes entry_from
+pub entry_reader : (format : Format) → IsReader MayBe (body_bytes format) (entry_at format)
+unfolding entry_at body_bytes
+entry_reader format =
+    made_reader IsEntryTuple (entry_tuple_bytes format) (both_at time_at (both_at (number_at w32) (both_at (number_at w16) (both_at (visible_at 0 64) (both_at key_at (both_at reply_at (change_at format)))))))
+    MayBe (body_bytes format) entry_from
     (λ p holds. (holds, refl))
     (λ e holds. (entry_tuple e, holds, refl))
     (both_reader _ _ _ _ _ _ time_reader
@@ -567,4 +603,4 @@ entry_reader =
     (both_reader _ _ _ _ _ _ two_reader
     (both_reader _ _ _ _ _ _ (visible_reader 0 64 (omega arith) (omega arith))
     (both_reader _ _ _ _ _ _ key_reader
-    (both_reader _ _ _ _ _ _ reply_reader change_reader))))))
+    (both_reader _ _ _ _ _ _ reply_reader (change_reader format)))))))

@@ -66,7 +66,7 @@ asked_to asked may = (
 
 asked_from : (asked : Asked) → IsAsked asked → asked_within asked ≡ true → MayAsk 8 asked
 asked_from asked is within =
-    let parts = five_of (nat_le (length asked.prefixes) 16) (nat_le (length asked.ports) 16) (nat_le (length asked.protocols) 16) (nat_le (length asked.names) 8) (nat_le (length asked.aliases) 8) within in
+    let parts = five_of (nat_le (length asked.prefixes) 32) (nat_le (length asked.ports) 32) (nat_le (length asked.protocols) 32) (nat_le (length asked.names) 8) (nat_le (length asked.aliases) 8) within in
     ((at_most _ _ parts.0, is.prefixes), ((at_most _ _ parts.1.0, is.ports), ((at_most _ _ parts.1.1.0, is.protocols), ((at_most _ _ parts.1.1.1.0, is.names), (at_most _ _ parts.1.1.1.1, is.aliases)))))
 
 none_more : (asked : Asked) → MayAsk 0 asked → MayAsk 8 asked
@@ -99,10 +99,10 @@ ace_to ace may = record { name = may.0; source = may.1.0; destination = may.1.1.
 ace_from : (ace : Ace) → IsAce ace → MayEnter ace
 ace_from ace is = (is.name, (is.source, (is.destination, (of_byte ace.protocol is.protocol, (is.source_port, (is.destination_port, tt))))))
 
-acl_to : (acl : Acl) → MayList acl → IsAcl acl × (nat_le (length acl.aces) 32 ≡ true)
+acl_to : (acl : Acl) → MayList acl → IsAcl acl × (nat_le (length acl.aces) 64 ≡ true)
 acl_to acl may = (record { name = may.0; aces = each_of MayEnter IsAce ace_to acl.aces may.1.1.1.1 }, is_most _ _ may.1.1.1.0)
 
-acl_from : (acl : Acl) → IsAcl acl → nat_le (length acl.aces) 32 ≡ true → MayList acl
+acl_from : (acl : Acl) → IsAcl acl → nat_le (length acl.aces) 64 ≡ true → MayList acl
 acl_from acl is within = (is.name, (tt, (tt, (at_most _ _ within, each_of IsAce MayEnter ace_from acl.aces is.aces))))
 
 -- ---- mitigations
@@ -122,7 +122,7 @@ targets_from : (room : ℕ) (targets : List Target) → AllByRecursion IsTarget 
 targets_from room [] are within few = tt
 targets_from room (target ∷ targets) are within few =
     let parts = and_parts (target_within target) (list_all target_within targets) within in
-    let sizes = and_parts (nat_le (length target.ports) 16) (nat_le (length target.protocols) 16) parts.0 in (
+    let sizes = and_parts (nat_le (length target.ports) 32) (nat_le (length target.protocols) 32) parts.0 in (
       ((omega (arith, few), are.0.prefixes), ((at_most _ _ sizes.0, are.0.ports), (at_most _ _ sizes.1, are.0.protocols))),
       targets_from (room - length target.prefixes) targets are.1 parts.1 (omega (arith, few)),
     )
@@ -136,17 +136,17 @@ fits_signed z fits = (cast_unsigned w32 z, (of_z_fits w32 z fits).fits, to_z-of_
 put_to : (put : Put) → MayPut put → IsPut put × (put_within put ≡ true)
 put_to put may =
     let asked = asked_to put.asked may.1.0 in
-    let targets = targets_to (length put.targets) 64 put.targets may.1.1.0.1 in (
+    let targets = targets_to (length put.targets) 128 put.targets may.1.1.0.1 in (
       record { mid = may.0; asked = asked.0; targets = targets.0; granted = signed_fits put.granted may.1.1.1.0; start = may.1.1.1.1 },
       and_from _ _ (and_from _ _ (and_from _ _ asked.1 (is_most _ _ may.1.1.0.0)) targets.1.0) (is_most _ _ targets.1.1),
     )
 
 put_from : (put : Put) → IsPut put → put_within put ≡ true → MayPut put
 put_from put is within =
-    let few = and_parts (asked_within put.asked && nat_le (length put.targets) 9 && list_all target_within put.targets) (nat_le (prefix_count put.targets) 64) within in
+    let few = and_parts (asked_within put.asked && nat_le (length put.targets) 9 && list_all target_within put.targets) (nat_le (prefix_count put.targets) 128) within in
     let all = and_parts (asked_within put.asked && nat_le (length put.targets) 9) (list_all target_within put.targets) few.0 in
     let first = and_parts (asked_within put.asked) (nat_le (length put.targets) 9) all.0 in
-    (is.mid, (asked_from put.asked is.asked first.0, ((at_most _ _ first.1, targets_from 64 put.targets is.targets all.1 (at_most _ _ few.1)), (fits_signed put.granted is.granted, is.start))))
+    (is.mid, (asked_from put.asked is.asked first.0, ((at_most _ _ first.1, targets_from 128 put.targets is.targets all.1 (at_most _ _ few.1)), (fits_signed put.granted is.granted, is.start))))
 
 -- ---- session configurations
 

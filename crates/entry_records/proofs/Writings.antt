@@ -1,17 +1,21 @@
 -- How what functions write is joined.
-use Rattle.std.proofs.Common.{true, nat_le, nat_lt, IsTrue, ◌&&◌, ◌||◌, ◌^◌, add-one, get_or, ◌≡◌, ℕ, zero, suc, ◌+◌, ◌*◌, ◌<◌, ◌≤◌, List, [], ◌∷◌, ◌++◌, length, take, sym, ap, subst, ◌∙◌, arith, append_assoc}
+use Rattle.std.proofs.Common.{true, nat_le, nat_lt, IsTrue, ◌&&◌, ◌||◌, ◌^◌, add-one, get_or, ◌≡◌, ℕ, zero, suc, ◌+◌, ◌*◌, ◌<◌, ◌≤◌, List, [], ◌∷◌, ◌++◌, length, take, refl, sym, ap, subst, ◌∙◌, arith, append_assoc}
 use Rattle.std.specs.Prelude.{◌==◌}
 use Rattle.std.specs.List.{AllByRecursion, flat_map}
 use Rattle.std.proofs.lemmas.Bool.{and_parts}
 use Rattle.dots_lists.specs.Name.{is_name}
 use native.Mathlib.Numerals.{unary_clauses}
-use Rattle.std.proofs.lemmas.List.{append-nil, length-append}
+use Rattle.std.proofs.lemmas.List.{append-nil, length-append, length-take}
+use Rattle.sha2.specs.Sha256.{sha256}
+use Rattle.record_formats.specs.declared.format.Format.{Format}
+use Rattle.record_formats.specs.declared.format.Format.TheVariants.{One, Two}
+use Rattle.record_formats.specs.Formats.{seal, sealed}
 use Rattle.acl_lists.specs.declared.asked.Asked.{Asked}
 use Rattle.dots_history.specs.Bounds.{asked_within, prefix_count, change_within, target_within, within_bounds}
 use Rattle.dots_history.specs.declared.entry.Entry.{Entry}
 use Rattle.dots_history.specs.declared.put.Target.{Target}
 use Rattle.entry_records.specs.Values.{IsByte}
-use Rattle.entry_records.specs.Layout.{target_bytes}
+use Rattle.entry_records.specs.Layout.{target_bytes, body_bytes, record_bytes}
 use Rattle.entry_records.specs.Writing.{Writes}
 use Rattle.entry_records.proofs.Within.{five_of, at_most, cuid_from}
 
@@ -36,11 +40,11 @@ pub same : {k : ℕ} {a b x y : List ℕ} → Writes k a x y → a ≡ b → Wri
 same {k} {a} {b} {x} {y} w is = subst (λ (l : List ℕ). Writes k l x y) is w
 
 abbrev pub Sizes : Asked → Type 0
-Sizes asked = (length asked.prefixes ≤ 16) × ((length asked.ports ≤ 16) × ((length asked.protocols ≤ 16) × ((length asked.names ≤ 8) × (length asked.aliases ≤ 8))))
+Sizes asked = (length asked.prefixes ≤ 32) × ((length asked.ports ≤ 32) × ((length asked.protocols ≤ 32) × ((length asked.names ≤ 8) × (length asked.aliases ≤ 8))))
 
 pub asked_sizes : (asked : Asked) → asked_within asked ≡ true → Sizes asked
 asked_sizes asked within =
-    let parts = five_of (nat_le (length asked.prefixes) 16) (nat_le (length asked.ports) 16) (nat_le (length asked.protocols) 16) (nat_le (length asked.names) 8) (nat_le (length asked.aliases) 8) within in
+    let parts = five_of (nat_le (length asked.prefixes) 32) (nat_le (length asked.ports) 32) (nat_le (length asked.protocols) 32) (nat_le (length asked.names) 8) (nat_le (length asked.aliases) 8) within in
     (at_most _ _ parts.0, (at_most _ _ parts.1.0, (at_most _ _ parts.1.1.0, (at_most _ _ parts.1.1.1.0, at_most _ _ parts.1.1.1.1))))
 
 next_item : {A : Type 0} (i : ℕ) (xs : List A) (x : A) → i < length xs → x ≡ get_or xs i x → take (suc i) xs ≡ take i xs ++ (x ∷ [])
@@ -80,9 +84,9 @@ bytes_are (b ∷ bytes) each = (each 0, bytes_are bytes (λ i. each (suc i)))
 
 -- ---- targets
 
-pub target_sizes : (target : Target) → target_within target ≡ true → (length target.ports ≤ 16) × (length target.protocols ≤ 16)
+pub target_sizes : (target : Target) → target_within target ≡ true → (length target.ports ≤ 32) × (length target.protocols ≤ 32)
 target_sizes target within =
-    let parts = and_parts (nat_le (length target.ports) 16) (nat_le (length target.protocols) 16) within in
+    let parts = and_parts (nat_le (length target.ports) 32) (nat_le (length target.protocols) 32) within in
     (at_most _ _ parts.0, at_most _ _ parts.1)
 
 count_next : (targets : List Target) (x : Target) → prefix_count (targets ++ (x ∷ [])) ≡ prefix_count targets + length x.prefixes
@@ -95,8 +99,8 @@ item_count zero (y ∷ targets) x few is = omega (arith, ap (λ (t : Target). le
 item_count (suc i) (y ∷ targets) x few is = omega (arith, item_count i targets x (omega (arith, few)) is)
 
 pub one_target : (i : ℕ) (targets : List Target) (x : Target) {n : ℕ} {old between new : List ℕ} → i < length targets → x ≡ get_or targets i x
-    → Writes (1 + (83 * i + 18 * prefix_count (take i targets))) (n ∷ flat_map target_bytes (take i targets)) old between → Writes (83 + 18 * length x.prefixes) (target_bytes x) between new
-    → Writes (1 + (83 * (i + 1) + 18 * prefix_count (take (i + 1) targets))) (n ∷ flat_map target_bytes (take (i + 1) targets)) old new
+    → Writes (1 + (163 * i + 18 * prefix_count (take i targets))) (n ∷ flat_map target_bytes (take i targets)) old between → Writes (163 + 18 * length x.prefixes) (target_bytes x) between new
+    → Writes (1 + (163 * (i + 1) + 18 * prefix_count (take (i + 1) targets))) (n ∷ flat_map target_bytes (take (i + 1) targets)) old new
 one_target i targets x {n} few is before item =
     let step : take (i + 1) targets ≡ take i targets ++ (x ∷ []) = rw (add-one i) (next_item i targets x few is) in
     let count : prefix_count (take (i + 1) targets) ≡ prefix_count (take i targets) + length x.prefixes = ap prefix_count step ∙ count_next (take i targets) x in
@@ -110,3 +114,23 @@ entry_sizes e within =
     let replied = and_parts (nat_lt e.time (2 ^ 48) && ((length e.cuid == 0) || is_name e.cuid)) (nat_le (length e.reply) 64) last.0 in
     let first = and_parts (nat_lt e.time (2 ^ 48)) ((length e.cuid == 0) || is_name e.cuid) replied.0 in
     ((cuid_from e.cuid first.1).high, (at_most _ _ replied.1, last.1))
+
+-- ---- records
+
+-- what is written with nothing before it
+pub alone_is : {k : ℕ} {a x y : List ℕ} → x ≡ [] → Writes k a x y → k ≤ 7649 → y ≡ a
+alone_is {k} {a} {x} {y} empty w few = w.written (omega (arith, ap (length {A = ℕ}) empty, w.short, few)) ∙ ap (λ (l : List ℕ). l ++ a) empty
+
+pub record_one : (format : Format) (e : Entry) → format ≡ One → body_bytes format e ≡ record_bytes format e
+unfolding record_bytes
+record_one One e is = refl
+record_one Two e is = cc
+
+pub record_two : (format : Format) (e : Entry) → format ≡ Two → sealed (body_bytes format e) ≡ record_bytes format e
+unfolding record_bytes
+record_two One e is = cc
+record_two Two e is = refl
+
+pub sealed_short : (bytes : List ℕ) → length (sealed bytes) ≤ length bytes + 8
+unfolding seal
+sealed_short bytes = omega (arith, length-append bytes (take 8 (sha256 bytes)), length-take 8 (sha256 bytes))

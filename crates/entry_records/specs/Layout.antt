@@ -1,8 +1,11 @@
--- The bytes of an entry, field by field: the layout of a record. It is this server's own. Numbers of several bytes have
--- the highest first.
+-- The bytes of an entry, field by field: the layout of a record in both formats of a journal's records. It is this server's own. Numbers of
+-- several bytes have the highest first.
 use Rattle.std.specs.Prelude.{ℕ, Option, Some, None, Bool, true, false, List, [], ◌∷◌, ◌++◌, length}
 use Rattle.std.specs.List.{flat_map}
 use Rattle.std.specs.Int.{w16, w32, w64, w128, to_be_bytes, cast_unsigned}
+use Rattle.record_formats.specs.declared.format.Format.{Format}
+use Rattle.record_formats.specs.declared.format.Format.TheVariants.{One, Two}
+use Rattle.record_formats.specs.Formats.{sealed}
 use Rattle.ip_scope.specs.declared.family.Family.{Family}
 use Rattle.ip_scope.specs.declared.family.Family.TheVariants.{V4, V6}
 use Rattle.ip_scope.specs.Prefix.{PrefixValue}
@@ -126,14 +129,20 @@ acl_bytes acl =
 unfoldable pub target_bytes : Target → List ℕ
 target_bytes target = listed prefix_bytes target.prefixes ++ (listed ports_bytes target.ports ++ counted target.protocols)
 
--- without the trigger, which the number of the change has
-unfoldable pub put_bytes : Put → List ℕ
-put_bytes put =
+-- The trigger says whether a mitigation filters at once, or waits until the signal of its client is lost (RFC 9132, section 4.4.1). The second
+-- format has a field for it. In the first the number of the change has it.
+abbrev pub trigger_bytes : Format → Bool → List ℕ
+trigger_bytes One trigger = []
+trigger_bytes Two trigger = byte (flag_number trigger)
+
+unfoldable pub put_bytes : Format → Put → List ℕ
+put_bytes format put =
     to_be_bytes w32 put.mid
     ++ (asked_bytes put.asked
     ++ (listed target_bytes put.targets
     ++ (to_be_bytes w32 (cast_unsigned w32 put.granted)
-    ++ to_be_bytes w64 put.start)))
+    ++ (to_be_bytes w64 put.start
+    ++ trigger_bytes format put.trigger))))
 
 unfoldable pub values_bytes : Values → List ℕ
 values_bytes values =
@@ -149,42 +158,42 @@ config_bytes config = values_bytes config.mitigating ++ values_bytes config.idle
 
 -- ---- entries
 
--- The trigger says whether a mitigation filters at once, or waits until the signal of its client is lost (RFC 9132,
--- section 4.4.1).
-abbrev pub put_number : Bool → ℕ
-put_number true = 1
-put_number false = 13
+-- the number of a change that asks for a mitigation with this trigger
+abbrev pub put_number : Format → Bool → ℕ
+put_number One true = 1
+put_number One false = 13
+put_number Two trigger = 1
 
-abbrev pub change_number : Change → ℕ
-change_number (change.Put put) = put_number put.trigger
-change_number (change.Withdraw mid) = 2
-change_number (change.SetAlias alias) = 3
-change_number (change.DropAlias name) = 4
-change_number (change.SetAcl acl) = 5
-change_number (change.DropAcl name) = 6
-change_number change.Register = 7
-change_number change.Deregister = 8
-change_number (change.SetConfig sid config) = 9
-change_number change.ClearConfig = 10
-change_number change.Lost = 11
-change_number change.Back = 12
+abbrev pub change_number : Format → Change → ℕ
+change_number format (change.Put put) = put_number format put.trigger
+change_number format (change.Withdraw mid) = 2
+change_number format (change.SetAlias alias) = 3
+change_number format (change.DropAlias name) = 4
+change_number format (change.SetAcl acl) = 5
+change_number format (change.DropAcl name) = 6
+change_number format change.Register = 7
+change_number format change.Deregister = 8
+change_number format (change.SetConfig sid config) = 9
+change_number format change.ClearConfig = 10
+change_number format change.Lost = 11
+change_number format change.Back = 12
 
-unfoldable pub change_fields : Change → List ℕ
-change_fields (change.Put put) = put_bytes put
-change_fields (change.Withdraw mid) = to_be_bytes w32 mid
-change_fields (change.SetAlias alias) = alias_bytes alias
-change_fields (change.DropAlias name) = counted name
-change_fields (change.SetAcl acl) = acl_bytes acl
-change_fields (change.DropAcl name) = counted name
-change_fields change.Register = []
-change_fields change.Deregister = []
-change_fields (change.SetConfig sid config) = to_be_bytes w32 sid ++ config_bytes config
-change_fields change.ClearConfig = []
-change_fields change.Lost = []
-change_fields change.Back = []
+unfoldable pub change_fields : Format → Change → List ℕ
+change_fields format (change.Put put) = put_bytes format put
+change_fields format (change.Withdraw mid) = to_be_bytes w32 mid
+change_fields format (change.SetAlias alias) = alias_bytes alias
+change_fields format (change.DropAlias name) = counted name
+change_fields format (change.SetAcl acl) = acl_bytes acl
+change_fields format (change.DropAcl name) = counted name
+change_fields format change.Register = []
+change_fields format change.Deregister = []
+change_fields format (change.SetConfig sid config) = to_be_bytes w32 sid ++ config_bytes config
+change_fields format change.ClearConfig = []
+change_fields format change.Lost = []
+change_fields format change.Back = []
 
-abbrev pub change_bytes : Change → List ℕ
-change_bytes change = change_number change ∷ change_fields change
+abbrev pub change_bytes : Format → Change → List ℕ
+change_bytes format change = change_number format change ∷ change_fields format change
 
 abbrev pub key_number : MessageKey → ℕ
 key_number key.Http = 0
@@ -204,13 +213,18 @@ key_bytes key = key_number key ∷ to_be_bytes w16 (key_id key)
 abbrev pub reply_bytes : List ℕ → List ℕ
 reply_bytes reply = to_be_bytes w16 (length reply) ++ reply
 
--- the record of an entry
-unfoldable pub record_bytes : Entry → List ℕ
-record_bytes entry =
+-- an entry, field by field
+unfoldable pub body_bytes : Format → Entry → List ℕ
+body_bytes format entry =
     to_be_bytes w64 entry.time
     ++ (to_be_bytes w32 entry.peer
     ++ (to_be_bytes w16 entry.domain
     ++ (counted entry.cuid
     ++ (key_bytes entry.key
     ++ (reply_bytes entry.reply
-    ++ change_bytes entry.change)))))
+    ++ change_bytes format entry.change)))))
+
+-- The record of an entry: in the first format its fields alone, and in the second the seal of these behind them.
+unfoldable pub record_bytes : Format → Entry → List ℕ
+record_bytes One entry = body_bytes One entry
+record_bytes Two entry = sealed (body_bytes Two entry)

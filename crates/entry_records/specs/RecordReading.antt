@@ -4,6 +4,9 @@ use Rattle.std.specs.Prelude.{◌≡◌, ℕ, zero, suc, ◌+◌, ◌-◌, ◌*�
 use Rattle.std.specs.Char.{is_ascii_graphic}
 use Rattle.std.specs.Int.{Width, w16, w32, w64, byte_len, from_be_bytes, cast_signed}
 use Rattle.dots_lists.specs.Steps.{unless}
+use Rattle.record_formats.specs.declared.format.Format.{Format}
+use Rattle.record_formats.specs.declared.format.Format.TheVariants.{One, Two}
+use Rattle.record_formats.specs.Formats.{seal}
 use Rattle.ip_scope.specs.declared.family.Family.{Family}
 use Rattle.ip_scope.specs.declared.family.Family.TheVariants.{V4, V6}
 use Rattle.ip_scope.specs.Family.{width}
@@ -29,6 +32,7 @@ use Rattle.dots_history.specs.declared.put.Put.{Put}
 use Rattle.dots_history.specs.declared.put.Target.{Target}
 use Rattle.entry_records.specs.declared.fault.EntryFault.{EntryFault}
 use Rattle.entry_records.specs.declared.fault.EntryFault.TheVariants.{NotEntry, NoMemory}
+use Rattle.entry_records.specs.Layout.{body_bytes}
 
 -- what is read and the bytes behind it, or the place
 abbrev pub Read : Type 0 → Type 0
@@ -67,6 +71,10 @@ pair_at first next end bytes = first end bytes >>= λ x. next x.0 end x.1 >>= λ
 -- a value and another behind it
 abbrev pub both_at : {A B : Type 0} → (ℕ → List ℕ → Read A) → (ℕ → List ℕ → Read B) → ℕ → List ℕ → Read (A × B)
 both_at first second = pair_at first (λ _. second)
+
+-- the first of two values
+abbrev pub first : {A B : Type 0} → A × B → A
+first p = p.0
 
 -- the second of two values
 abbrev pub second : {A B : Type 0} → A × B → B
@@ -108,6 +116,11 @@ number_at w = made_at (from_be_bytes w) (bytes_at (byte_len w))
 -- a byte from the least to the most
 abbrev pub within_at : ℕ → ℕ → ℕ → List ℕ → Read ℕ
 within_at least most = byte_at (between least most)
+
+-- exactly these bytes
+unfoldable pub exactly_at : List ℕ → ℕ → List ℕ → Read (Unit {0})
+exactly_at [] = nothing_at tt
+exactly_at (x ∷ xs) = made_at second (both_at (within_at x x) (exactly_at xs))
 
 -- seconds below 2^48, in eight bytes
 abbrev pub time_of : List ℕ → ℕ
@@ -266,12 +279,17 @@ all_targets_at = made_at second (pair_at (within_at 0 MAX_TARGETS) (λ n. target
 abbrev pub granted_at : ℕ → List ℕ → Read ℤ
 granted_at = made_at (cast_signed w32) (number_at w32)
 
-abbrev pub put_from : Bool → ℕ × (Asked × (List Target × (ℤ × ℕ))) → Put
-put_from trigger p = record { mid = p.0; asked = p.1.0; targets = p.1.1.0; granted = p.1.1.1.0; start = p.1.1.1.1; trigger = trigger }
+-- the trigger where the number of the change has this one
+abbrev pub trigger_at : Format → Bool → ℕ → List ℕ → Read Bool
+trigger_at One numbered = nothing_at numbered
+trigger_at Two numbered = flag_at
 
--- with this trigger
-unfoldable pub put_at : Bool → ℕ → List ℕ → Read Put
-put_at trigger = made_at (put_from trigger) (both_at (number_at w32) (both_at (asked_at MAX_NAMES) (both_at all_targets_at (both_at granted_at (number_at w64)))))
+abbrev pub put_from : ℕ × (Asked × (List Target × (ℤ × (ℕ × Bool)))) → Put
+put_from p = record { mid = p.0; asked = p.1.0; targets = p.1.1.0; granted = p.1.1.1.0; start = p.1.1.1.1.0; trigger = p.1.1.1.1.1 }
+
+-- where the number of the change has this trigger
+unfoldable pub put_at : Format → Bool → ℕ → List ℕ → Read Put
+put_at format numbered = made_at put_from (both_at (number_at w32) (both_at (asked_at MAX_NAMES) (both_at all_targets_at (both_at granted_at (both_at (number_at w64) (trigger_at format numbered))))))
 
 abbrev pub values_from : ℕ × (ℕ × (ℕ × (ℕ × (ℕ × ℕ)))) → Values
 values_from p = record { interval = p.0; missing = p.1.0; retransmit = p.1.1.0; timeout = p.1.1.1.0; factor = p.1.1.1.1.0; rate = p.1.1.1.1.1 }
@@ -291,24 +309,29 @@ abbrev pub dropped_alias : List ℕ → Change
 dropped_alias name = change.DropAlias name
 
 -- the fields of a change of this number
-unfoldable pub fields_at : ℕ → ℕ → List ℕ → Read Change
-fields_at zero = nothing_at change.Register
-fields_at (suc zero) = made_at change.Put (put_at true)
-fields_at (suc (suc zero)) = made_at change.Withdraw (number_at w32)
-fields_at (suc (suc (suc zero))) = made_at change.SetAlias alias_at
-fields_at (suc (suc (suc (suc zero)))) = made_at change.DropAlias name_at
-fields_at (suc (suc (suc (suc (suc zero))))) = made_at change.SetAcl acl_at
-fields_at (suc (suc (suc (suc (suc (suc zero)))))) = made_at change.DropAcl name_at
-fields_at (suc (suc (suc (suc (suc (suc (suc zero))))))) = nothing_at change.Register
-fields_at (suc (suc (suc (suc (suc (suc (suc (suc zero)))))))) = nothing_at change.Deregister
-fields_at (suc (suc (suc (suc (suc (suc (suc (suc (suc zero))))))))) = made_at (λ p. change.SetConfig p.0 p.1) (both_at (number_at w32) config_at)
-fields_at (suc (suc (suc (suc (suc (suc (suc (suc (suc (suc zero)))))))))) = nothing_at change.ClearConfig
-fields_at (suc (suc (suc (suc (suc (suc (suc (suc (suc (suc (suc zero))))))))))) = nothing_at change.Lost
-fields_at (suc (suc (suc (suc (suc (suc (suc (suc (suc (suc (suc (suc zero)))))))))))) = nothing_at change.Back
-fields_at (suc (suc (suc (suc (suc (suc (suc (suc (suc (suc (suc (suc (suc n))))))))))))) = made_at change.Put (put_at false)
+unfoldable pub fields_at : Format → ℕ → ℕ → List ℕ → Read Change
+fields_at format zero = nothing_at change.Register
+fields_at format (suc zero) = made_at change.Put (put_at format true)
+fields_at format (suc (suc zero)) = made_at change.Withdraw (number_at w32)
+fields_at format (suc (suc (suc zero))) = made_at change.SetAlias alias_at
+fields_at format (suc (suc (suc (suc zero)))) = made_at change.DropAlias name_at
+fields_at format (suc (suc (suc (suc (suc zero))))) = made_at change.SetAcl acl_at
+fields_at format (suc (suc (suc (suc (suc (suc zero)))))) = made_at change.DropAcl name_at
+fields_at format (suc (suc (suc (suc (suc (suc (suc zero))))))) = nothing_at change.Register
+fields_at format (suc (suc (suc (suc (suc (suc (suc (suc zero)))))))) = nothing_at change.Deregister
+fields_at format (suc (suc (suc (suc (suc (suc (suc (suc (suc zero))))))))) = made_at (λ p. change.SetConfig p.0 p.1) (both_at (number_at w32) config_at)
+fields_at format (suc (suc (suc (suc (suc (suc (suc (suc (suc (suc zero)))))))))) = nothing_at change.ClearConfig
+fields_at format (suc (suc (suc (suc (suc (suc (suc (suc (suc (suc (suc zero))))))))))) = nothing_at change.Lost
+fields_at format (suc (suc (suc (suc (suc (suc (suc (suc (suc (suc (suc (suc zero)))))))))))) = nothing_at change.Back
+fields_at format (suc (suc (suc (suc (suc (suc (suc (suc (suc (suc (suc (suc (suc n))))))))))))) = made_at change.Put (put_at format false)
 
-unfoldable pub change_at : ℕ → List ℕ → Read Change
-change_at = made_at second (pair_at (within_at 1 13) fields_at)
+-- the greatest number of a change
+abbrev pub last_number : Format → ℕ
+last_number One = 13
+last_number Two = 12
+
+unfoldable pub change_at : Format → ℕ → List ℕ → Read Change
+change_at format = made_at second (pair_at (within_at 1 (last_number format)) (fields_at format))
 
 abbrev pub id_at : ℕ → ℕ → List ℕ → Read MessageKey
 id_at zero = made_at (λ _. key.Http) (both_at (within_at 0 0) (within_at 0 0))
@@ -325,15 +348,24 @@ reply_at = made_at second (both_at (within_at 0 0) (counted_at 64))
 abbrev pub entry_from : ℕ × (ℕ × (ℕ × (List ℕ × (MessageKey × (List ℕ × Change))))) → Entry
 entry_from p = record { time = p.0; peer = p.1.0; domain = p.1.1.0; cuid = p.1.1.1.0; key = p.1.1.1.1.0; reply = p.1.1.1.1.1.0; change = p.1.1.1.1.1.1 }
 
-abbrev pub tail_at : ℕ → List ℕ → Read (MessageKey × (List ℕ × Change))
-tail_at = both_at key_at (both_at reply_at change_at)
+abbrev pub tail_at : Format → ℕ → List ℕ → Read (MessageKey × (List ℕ × Change))
+tail_at format = both_at key_at (both_at reply_at (change_at format))
 
-unfoldable pub entry_at : ℕ → List ℕ → Read Entry
-entry_at = made_at entry_from (both_at time_at (both_at (number_at w32) (both_at (number_at w16) (both_at (visible_at 0 64) tail_at))))
+unfoldable pub entry_at : Format → ℕ → List ℕ → Read Entry
+entry_at format = made_at entry_from (both_at time_at (both_at (number_at w32) (both_at (number_at w16) (both_at (visible_at 0 64) (tail_at format)))))
+
+-- what stands behind these bytes of the fields: nothing, or in the second format their seal
+abbrev pub closing_at : Format → List ℕ → ℕ → List ℕ → Read (Unit {0})
+closing_at One fields = nothing_at tt
+closing_at Two fields = exactly_at (seal fields)
+
+-- the whole record of an entry
+unfoldable pub whole_at : Format → ℕ → List ℕ → Read Entry
+whole_at format = made_at first (pair_at (entry_at format) (λ entry. closing_at format (body_bytes format entry)))
 
 -- an entry whose bytes end where the input ends
 abbrev pub alone : ℕ → Entry × List ℕ → Result Entry ℕ
 alone end x = if length x.1 == 0 then Ok x.0 else Err (end - length x.1)
 
-abbrev pub record_at : List ℕ → Result Entry ℕ
-record_at bytes = entry_at (length bytes) bytes >>= alone (length bytes)
+abbrev pub record_at : Format → List ℕ → Result Entry ℕ
+record_at format bytes = whole_at format (length bytes) bytes >>= alone (length bytes)

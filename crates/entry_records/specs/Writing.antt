@@ -4,4 +4,4 @@ use Rattle.std.specs.Prelude.{◌≡◌, ℕ, ◌+◌, ◌≤◌, List, ◌++◌
 -- These bytes, at most so many, stand behind the old ones where the longest record has room for both.
 pub record Writes (most : ℕ) (bytes old new : List ℕ) : Type 0 where
   pub short : length bytes ≤ most
-  pub written : length old + length bytes ≤ 3929 → new ≡ old ++ bytes
+  pub written : length old + length bytes ≤ 7649 → new ≡ old ++ bytes

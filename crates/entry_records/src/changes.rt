@@ -1,7 +1,7 @@
 //! Reading access lists, mitigations, session configurations and whole entries.
 
-ghost use Rattle.std.specs.Prelude.{◌≡◌, ◌≢◌, ◌≤◌, ℕ, length, Ok, Err, IfOk, IfErr, OnOk, sum_by};
-ghost use Rattle.entry_records.specs.RecordReading.{Gives, ace_at, acl_at, activation_at, all_targets_at, change_at, conditions_at, tail_at, config_at, entry_at, family_at, fields_at, granted_at, id_at, items_at, key_at, list_at, optional_at, prefix_at, put_at, record_at, reply_at, target_at, targets_at, values_at, within_at};
+ghost use Rattle.std.specs.Prelude.{◌≡◌, ◌≤◌, length, IfOk, OnOk};
+ghost use Rattle.entry_records.specs.RecordReading.{Gives, ace_at, acl_at, activation_at, all_targets_at, change_at, closing_at, conditions_at, tail_at, config_at, entry_at, family_at, fields_at, granted_at, id_at, items_at, key_at, last_number, list_at, optional_at, prefix_at, put_at, reply_at, target_at, targets_at, trigger_at, values_at, whole_at, within_at};
 
 use crate::fault::EntryFault;
 use crate::lists::MAX_ITEMS;
@@ -10,6 +10,7 @@ use acl_lists::{Ace, AceList, Acl, Activation, PortTest};
 use dots_history::{Change, Config, Entry, MessageKey, Put, Target, TargetList, Values};
 use dots_lists::Bytes;
 use ip_scope::{Family, Prefix};
+use record_formats::{Format, seal};
 
 /// How many entries an access list has at most.
 const MAX_ACES: u8 = acl_lists::MAX_ACES as u8;
@@ -24,6 +25,17 @@ const MAX_REPLY: u8 = 64;
 
 /// How many names of aliases a request has at most.
 const MAX_ALIASES: u8 = acl_lists::MAX_NAMES as u8;
+
+/// The greatest number of a change.
+fn last_number(format: Format) -> u8
+    ensures value { result ≡ last_number format }
+    ensures most { result ≤ 13 }
+{
+    match format {
+        Format::One => 13,
+        Format::Two => 12,
+    }
+}
 
 impl Reader<'_> {
     /// A prefix that may be there.
@@ -98,7 +110,7 @@ impl Reader<'_> {
 
     #[tactic(auto, unfolding(crate::specs::RecordReading::list_at))]
     fn aces(&mut self) -> Result<AceList, EntryFault>
-        ensures value { Gives (λ x. (x, self.new.rest.now)) result (list_at 32 ace_at self.old.end self.old.rest.now) }
+        ensures value { Gives (λ x. (x, self.new.rest.now)) result (list_at 64 ace_at self.old.end self.old.rest.now) }
         ensures end { OnOk result (self.new.end ≡ self.old.end) }
     {
         let count = self.within(0, MAX_ACES)?;
@@ -222,7 +234,7 @@ impl Reader<'_> {
 
     /// So many targets, with at most so many prefixes together.
     fn targets_of(&mut self, count: u8) -> Result<TargetList, EntryFault>
-        ensures value { Gives (λ x. (x, self.new.rest.now)) result (targets_at count 64 self.old.end self.old.rest.now) }
+        ensures value { Gives (λ x. (x, self.new.rest.now)) result (targets_at count 128 self.old.end self.old.rest.now) }
         ensures end { OnOk result (self.new.end ≡ self.old.end) }
     {
         let mut targets = TargetList::new(self.alloc);
@@ -251,10 +263,21 @@ impl Reader<'_> {
         Ok(self.u32()?.cast_signed())
     }
 
-    /// A mitigation with this trigger, which the number of the change has.
+    /// The trigger of a mitigation. In the first format the number of the change has it.
+    fn trigger(&mut self, format: Format, numbered: bool) -> Result<bool, EntryFault>
+        ensures value { Gives (λ x. (x, self.new.rest.now)) result (trigger_at format numbered self.old.end self.old.rest.now) }
+        ensures end { OnOk result (self.new.end ≡ self.old.end) }
+    {
+        match format {
+            Format::One => Ok(numbered),
+            Format::Two => self.flag(),
+        }
+    }
+
+    /// A mitigation, where the number of the change has this trigger.
     #[tactic(auto, unfolding(crate::specs::RecordReading::put_at))]
-    fn put(&mut self, trigger: bool) -> Result<Put, EntryFault>
-        ensures value { Gives (λ x. (x, self.new.rest.now)) result (put_at trigger self.old.end self.old.rest.now) }
+    fn put(&mut self, format: Format, numbered: bool) -> Result<Put, EntryFault>
+        ensures value { Gives (λ x. (x, self.new.rest.now)) result (put_at format numbered self.old.end self.old.rest.now) }
         ensures end { OnOk result (self.new.end ≡ self.old.end) }
     {
         Ok(Put {
@@ -263,13 +286,13 @@ impl Reader<'_> {
             targets: self.targets()?,
             granted: self.granted()?,
             start: self.u64()?,
-            trigger,
+            trigger: self.trigger(format, numbered)?,
         })
     }
 
     #[tactic(auto, unfolding(crate::specs::RecordReading::fields_at))]
-    fn set_config(&mut self) -> Result<Change, EntryFault>
-        ensures value { Gives (λ x. (x, self.new.rest.now)) result (fields_at 9 self.old.end self.old.rest.now) }
+    fn set_config(&mut self, format: Format) -> Result<Change, EntryFault>
+        ensures value { Gives (λ x. (x, self.new.rest.now)) result (fields_at format 9 self.old.end self.old.rest.now) }
         ensures end { OnOk result (self.new.end ≡ self.old.end) }
     {
         let sid = self.u32()?;
@@ -279,14 +302,14 @@ impl Reader<'_> {
 
     /// The fields of a change of this number.
     #[tactic(auto, unfolding(crate::specs::RecordReading::fields_at))]
-    fn fields(&mut self, number: u8) -> Result<Change, EntryFault>
+    fn fields(&mut self, format: Format, number: u8) -> Result<Change, EntryFault>
         requires least { 1 ≤ number }
         requires most { number ≤ 13 }
-        ensures value { Gives (λ x. (x, self.new.rest.now)) result (fields_at number self.old.end self.old.rest.now) }
+        ensures value { Gives (λ x. (x, self.new.rest.now)) result (fields_at format number self.old.end self.old.rest.now) }
         ensures end { OnOk result (self.new.end ≡ self.old.end) }
     {
         match number {
-            1 => Ok(Change::Put(self.put(true)?)),
+            1 => Ok(Change::Put(self.put(format, true)?)),
             2 => Ok(Change::Withdraw { mid: self.u32()? }),
             3 => Ok(Change::SetAlias(self.alias()?)),
             4 => Ok(Change::DropAlias { name: self.name()? }),
@@ -294,41 +317,42 @@ impl Reader<'_> {
             6 => Ok(Change::DropAcl { name: self.name()? }),
             7 => Ok(Change::Register),
             8 => Ok(Change::Deregister),
-            9 => self.set_config(),
+            9 => self.set_config(format),
             10 => Ok(Change::ClearConfig),
             11 => Ok(Change::Lost),
             12 => Ok(Change::Back),
-            _ => Ok(Change::Put(self.put(false)?)),
+            _ => Ok(Change::Put(self.put(format, false)?)),
         }
     }
 
     #[tactic(auto, unfolding(crate::specs::RecordReading::change_at))]
-    fn change(&mut self) -> Result<Change, EntryFault>
-        ensures value { Gives (λ x. (x, self.new.rest.now)) result (change_at self.old.end self.old.rest.now) }
+    fn change(&mut self, format: Format) -> Result<Change, EntryFault>
+        ensures value { Gives (λ x. (x, self.new.rest.now)) result (change_at format self.old.end self.old.rest.now) }
         ensures end { OnOk result (self.new.end ≡ self.old.end) }
     {
-        let number = self.within(1, 13)?;
-        self.fields(number)
+        let number = self.within(1, last_number(format))?;
+        self.fields(format, number)
     }
 
     /// The message of an entry, the reply that it got, and the change.
-    fn tail(&mut self) -> Result<(MessageKey, Bytes, Change), EntryFault>
-        ensures value { Gives (λ x. ((x.0, (x.1, x.2)), self.new.rest.now)) result (tail_at self.old.end self.old.rest.now) }
+    fn tail(&mut self, format: Format) -> Result<(MessageKey, Bytes, Change), EntryFault>
+        ensures value { Gives (λ x. ((x.0, (x.1, x.2)), self.new.rest.now)) result (tail_at format self.old.end self.old.rest.now) }
         ensures end { OnOk result (self.new.end ≡ self.old.end) }
     {
-        Ok((self.key()?, self.reply()?, self.change()?))
+        Ok((self.key()?, self.reply()?, self.change(format)?))
     }
 
+    /// An entry without what stands behind its fields.
     #[tactic(auto, unfolding(crate::specs::RecordReading::entry_at))]
-    pub(crate) fn entry(&mut self) -> Result<Entry, EntryFault>
-        ensures value { Gives (λ x. (x, self.new.rest.now)) result (entry_at self.old.end self.old.rest.now) }
+    fn entry(&mut self, format: Format) -> Result<Entry, EntryFault>
+        ensures value { Gives (λ x. (x, self.new.rest.now)) result (entry_at format self.old.end self.old.rest.now) }
         ensures end { OnOk result (self.new.end ≡ self.old.end) }
     {
         let time = self.time()?;
         let peer = self.u32()?;
         let domain = self.u16()?;
         let cuid = self.cuid()?;
-        let (key, reply, change) = self.tail()?;
+        let (key, reply, change) = self.tail(format)?;
         Ok(Entry {
             time,
             peer,
@@ -338,5 +362,28 @@ impl Reader<'_> {
             reply,
             change,
         })
+    }
+
+    /// What stands behind these bytes of the fields: nothing, or in the second format their seal.
+    fn closing(&mut self, format: Format, fields: &[u8]) -> Result<(), EntryFault>
+        ensures value { Gives (λ x. (x, self.new.rest.now)) result (closing_at format fields.now self.old.end self.old.rest.now) }
+        ensures end { OnOk result (self.new.end ≡ self.old.end) }
+    {
+        match format {
+            Format::One => Ok(()),
+            Format::Two => self.exactly(&seal(fields)),
+        }
+    }
+
+    /// An entry whose whole record the bytes begin with.
+    pub(crate) fn whole(&mut self, format: Format, bytes: &[u8]) -> Result<Entry, EntryFault>
+        requires { self.old.rest.now ≡ bytes.now }
+        ensures value { Gives (λ x. (x, self.new.rest.now)) result (whole_at format self.old.end self.old.rest.now) }
+        ensures end { OnOk result (self.new.end ≡ self.old.end) }
+    {
+        let entry = self.entry(format)?;
+        let fields = &bytes[..bytes.len() - self.rest.len()];
+        self.closing(format, fields)?;
+        Ok(entry)
     }
 }

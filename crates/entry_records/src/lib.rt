@@ -1,8 +1,8 @@
-//! The records of history entries: the bytes by which a journal keeps them.
+//! The records of history entries: the bytes by which a journal keeps them, in both formats of a journal's records.
 //!
-//! `specs/Layout` says the bytes of an entry, field by field, `specs/Values` what the types of its fields say, and
-//! `specs/Records` which bytes are the record of an entry and at which place no record can go on. An entry that is within
-//! bounds has one record, and no other entry has any.
+//! `specs/Layout` says the bytes of an entry, field by field, `specs/Values` what the types of its fields say, and `specs/Records` which bytes
+//! are the record of an entry and at which place no record can go on. In each format an entry that is within bounds has one record, and no
+//! other entry has any. The record of the second format ends with a seal, and is what the upgrade of the first one's comes to.
 #![tactic(auto)]
 
 mod addresses;

@@ -54,7 +54,7 @@ impl Reader<'_> {
 
     #[tactic(auto, unfolding(crate::specs::RecordReading::list_at))]
     pub(crate) fn ranges(&mut self) -> Result<PortList, EntryFault>
-        ensures value { Gives (λ x. (x, self.new.rest.now)) result (list_at 16 ports_at self.old.end self.old.rest.now) }
+        ensures value { Gives (λ x. (x, self.new.rest.now)) result (list_at 32 ports_at self.old.end self.old.rest.now) }
         ensures end { OnOk result (self.new.end ≡ self.old.end) }
     {
         let count = self.within(0, MAX_ITEMS)?;

@@ -5,7 +5,7 @@ ghost use Rattle.std.specs.Char.{is_ascii_graphic};
 ghost use Rattle.std.specs.List.{list_all};
 ghost use Rattle.std.specs.Int.{w16, w32, w64};
 ghost use Rattle.entry_records.specs.declared.fault.EntryFault.TheVariants.{NotEntry};
-ghost use Rattle.entry_records.specs.RecordReading.{Gives, byte_at, bytes_at, counted_at, flag_at, items_at, number_at, time_at, visible_at, within_at};
+ghost use Rattle.entry_records.specs.RecordReading.{Gives, byte_at, bytes_at, counted_at, exactly_at, flag_at, items_at, number_at, time_at, visible_at, within_at};
 
 use crate::fault::EntryFault;
 use dots_lists::{Bytes, Name, Text};
@@ -128,6 +128,17 @@ impl<'a> Reader<'a> {
         ensures end { OnOk result (self.new.end ≡ self.old.end) }
     {
         Ok(self.within(0, 1)? == 1)
+    }
+
+    /// Exactly these bytes.
+    pub(crate) fn exactly(&mut self, bytes: &[u8]) -> Result<(), EntryFault>
+        ensures value { Gives (λ x. (x, self.new.rest.now)) result (exactly_at bytes.now self.old.end self.old.rest.now) }
+        ensures end { OnOk result (self.new.end ≡ self.old.end) }
+    {
+        for byte in bytes {
+            self.within(*byte, *byte)?;
+        }
+        Ok(())
     }
 
     /// At most so many bytes, behind their number.

@@ -7,32 +7,33 @@ ghost use Rattle.entry_records.specs.Records.{IsRecord, IsBroken};
 use crate::fault::EntryFault;
 use crate::reader::Reader;
 use dots_history::Entry;
+use record_formats::Format;
 use std::alloc::Global;
 
-/// The entry whose record the bytes are. One that is answered is within bounds.
+/// The entry whose record of this format the bytes are. One that is answered is within bounds.
 ///
 /// # Errors
 ///
-/// `NotEntry` with the place at which no record can go on where the bytes are no record, and `NoMemory` where there is no
+/// `NotEntry` with the place at which no record of the format can go on where the bytes are no record of it, and `NoMemory` where there is no
 /// memory for the entry's lists and texts.
-pub fn entry_of(alloc: Global, bytes: &[u8]) -> Result<Entry, EntryFault>
-    ensures found { IfOk result (λ entry. IsRecord bytes.now entry) }
-    ensures only { (entry : Entry) → IsRecord bytes.now entry → result ≢ Err NoMemory → result ≡ Ok entry }
-    ensures broken { IfErr result (λ fault. (at : ℕ) → fault ≡ NotEntry at → IsBroken bytes.now at) }
-    ensures first { (at : ℕ) → IsBroken bytes.now at → result ≢ Err NoMemory → result ≡ Err (NotEntry at) }
+pub fn entry_of(alloc: Global, bytes: &[u8], format: Format) -> Result<Entry, EntryFault>
+    ensures found { IfOk result (λ entry. IsRecord format bytes.now entry) }
+    ensures only { (entry : Entry) → IsRecord format bytes.now entry → result ≢ Err NoMemory → result ≡ Ok entry }
+    ensures broken { IfErr result (λ fault. (at : ℕ) → fault ≡ NotEntry at → IsBroken format bytes.now at) }
+    ensures first { (at : ℕ) → IsBroken format bytes.now at → result ≢ Err NoMemory → result ≡ Err (NotEntry at) }
 {
-    read_record(alloc, bytes)
+    read_record(alloc, bytes, format)
 }
 
-fn read_record(alloc: Global, bytes: &[u8]) -> Result<Entry, EntryFault>
-    ensures { Gives (λ x. x) result (record_at bytes.now) }
+fn read_record(alloc: Global, bytes: &[u8], format: Format) -> Result<Entry, EntryFault>
+    ensures { Gives (λ x. x) result (record_at format bytes.now) }
 {
     let mut reader = Reader {
         alloc,
         end: bytes.len(),
         rest: bytes,
     };
-    let entry = reader.entry()?;
+    let entry = reader.whole(format, bytes)?;
     if !reader.rest.is_empty() {
         return Err(reader.fault());
     }

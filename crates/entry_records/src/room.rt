@@ -5,6 +5,7 @@ ghost use Rattle.entry_records.specs.Records.{IsRecord};
 
 use crate::writer::Writer;
 use dots_history::Entry;
+use record_formats::Format;
 use std::marker::Model;
 
 /// Room for the record of an entry, [`crate::MAX_RECORD`] bytes in the value itself. Whoever writes one record after
@@ -32,15 +33,15 @@ impl RecordRoom {
         }
     }
 
-    /// Writes the record of an entry, in place of the one before.
-    pub fn put(&mut self, entry: &Entry)
+    /// Writes the record of an entry in this format, in place of the one before.
+    pub fn put(&mut self, entry: &Entry, format: Format)
         requires { IsTrue (within_bounds entry.now) }
-        ensures written { self.new ≡ record_bytes entry.now }
-        ensures short { length self.new ≤ 3929 }
-        ensures record { IsRecord (record_bytes entry.now) entry.now }
+        ensures written { self.new ≡ record_bytes format entry.now }
+        ensures short { length self.new ≤ 7649 }
+        ensures record { IsRecord format (record_bytes format entry.now) entry.now }
     {
         self.writer.clear();
-        self.writer.entry(entry);
+        self.writer.entry(format, entry);
     }
 
     /// The record that was written last.

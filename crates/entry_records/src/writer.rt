@@ -4,16 +4,18 @@
 ghost use Rattle.std.specs.Prelude.{◌≡◌, ◌+◌, ◌*◌, ◌^◌, ◌<◌, ◌≤◌, [], ◌∷◌, length};
 ghost use Rattle.std.specs.List.{AllByRecursion};
 ghost use Rattle.std.specs.Int.{w16, w32, w64, w128, to_be_bytes};
+ghost use Rattle.record_formats.specs.Formats.{sealed};
 ghost use Rattle.entry_records.specs.Layout.{counted};
 ghost use Rattle.entry_records.specs.Values.{IsByte, IsName};
 ghost use Rattle.entry_records.specs.Writing.{Writes};
 
 use arrayvec::ArrayVec;
 use dots_lists::Name;
+use record_formats::seal;
 use std::marker::Model;
 
-/// The greatest length of the record of an entry within bounds, in bytes.
-pub const MAX_RECORD: usize = 3_929;
+/// The greatest length of the record of an entry within bounds, in bytes: that of an access list in the second format.
+pub const MAX_RECORD: usize = 7_649;
 
 /// The bytes of a record as far as they are written.
 #[derive(Drop)]
@@ -70,6 +72,15 @@ impl Writer {
             Ok(()) => {}
             Err(_) => {}
         }
+    }
+
+    /// The seal of what is written, behind it.
+    pub(crate) fn seal(&mut self)
+        requires { length self.old ≤ 7641 }
+        ensures { self.new ≡ sealed self.old }
+    {
+        let seal = seal(self.written());
+        self.bytes(&seal);
     }
 
     pub(crate) fn u16(&mut self, number: u16)

@@ -5,31 +5,32 @@ ghost use Rattle.entry_records.specs.Records.{IsRecord};
 
 use crate::writer::Writer;
 use dots_history::Entry;
+use record_formats::Format;
 
-/// The length of the record of an entry, in bytes: at most [`crate::MAX_RECORD`].
-pub fn record_len(entry: &Entry) -> usize
+/// The length of the record of an entry in this format, in bytes: at most [`crate::MAX_RECORD`].
+pub fn record_len(entry: &Entry, format: Format) -> usize
     requires { IsTrue (within_bounds entry.now) }
-    ensures len { result ≡ length (record_bytes entry.now) }
-    ensures short { result ≤ 3929 }
-    ensures record { IsRecord (record_bytes entry.now) entry.now }
+    ensures len { result ≡ length (record_bytes format entry.now) }
+    ensures short { result ≤ 7649 }
+    ensures record { IsRecord format (record_bytes format entry.now) entry.now }
 {
     let mut writer = Writer::new();
-    writer.entry(entry);
+    writer.entry(format, entry);
     writer.written().len()
 }
 
-/// Writes the record of an entry to the front of `into`, and answers its length in bytes, that of `record_len`. What
-/// stood behind it stays. Room for [`crate::MAX_RECORD`] bytes is enough for each.
-pub fn record_into(entry: &Entry, into: &mut [u8]) -> usize
+/// Writes the record of an entry in this format to the front of `into`, and answers its length in bytes, that of `record_len`. What stood
+/// behind it stays. Room for [`crate::MAX_RECORD`] bytes is enough for each.
+pub fn record_into(entry: &Entry, format: Format, into: &mut [u8]) -> usize
     requires within { IsTrue (within_bounds entry.now) }
-    requires room { (length (record_bytes entry.now) ≤ length into.old) ⊎ (3929 ≤ length into.old) }
-    ensures short { result ≤ 3929 }
-    ensures len { result ≡ length (record_bytes entry.now) }
-    ensures written { into.new ≡ record_bytes entry.now ++ drop result into.old }
-    ensures record { IsRecord (record_bytes entry.now) entry.now }
+    requires room { (length (record_bytes format entry.now) ≤ length into.old) ⊎ (7649 ≤ length into.old) }
+    ensures short { result ≤ 7649 }
+    ensures len { result ≡ length (record_bytes format entry.now) }
+    ensures written { into.new ≡ record_bytes format entry.now ++ drop result into.old }
+    ensures record { IsRecord format (record_bytes format entry.now) entry.now }
 {
     let mut writer = Writer::new();
-    writer.entry(entry);
+    writer.entry(format, entry);
     let bytes = writer.written();
     into[..bytes.len()].copy_from_slice(bytes);
     bytes.len()

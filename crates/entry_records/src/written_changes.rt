@@ -1,10 +1,10 @@
 //! Writing access lists, mitigations, session configurations and whole entries.
 
-ghost use Rattle.std.specs.Prelude.{◌≡◌, ◌+◌, ◌*◌, ◌^◌, ◌<◌, ◌≤◌, ◌∷◌, ◌++◌, length, nat_le, IsTrue};
+ghost use Rattle.std.specs.Prelude.{◌≡◌, ◌+◌, ◌*◌, ◌^◌, ◌<◌, ◌≤◌, [], ◌++◌, length, IsTrue};
 ghost use Rattle.std.specs.List.{AllByRecursion, list_all};
 ghost use Rattle.std.specs.Int.{w32, to_be_bytes};
 ghost use Rattle.dots_history.specs.Bounds.{change_within, prefix_count, put_within, target_within, values_within, within_bounds};
-ghost use Rattle.entry_records.specs.Layout.{ace_bytes, acl_bytes, activation_number, change_bytes, change_fields, change_number, config_bytes, family_number, flag_number, key_bytes, key_id, key_number, listed, put_bytes, put_number, record_bytes, reply_bytes, target_bytes, values_bytes};
+ghost use Rattle.entry_records.specs.Layout.{ace_bytes, acl_bytes, activation_number, body_bytes, change_fields, change_number, config_bytes, family_number, key_bytes, listed, put_bytes, put_number, record_bytes, reply_bytes, target_bytes, trigger_bytes, values_bytes};
 ghost use Rattle.entry_records.specs.Values.{IsAce, IsAcl, IsByte, IsChange, IsEntry, IsKey, IsPut, IsTarget};
 ghost use Rattle.entry_records.specs.Writing.{Writes};
 
@@ -12,6 +12,7 @@ use crate::writer::Writer;
 use acl_lists::{Ace, Acl, Activation};
 use dots_history::{Change, Config, Entry, MessageKey, Put, Target, Values};
 use ip_scope::Family;
+use record_formats::Format;
 
 /// The number of a family that is a field of its own.
 fn family_byte(family: Family) -> u8
@@ -40,19 +41,22 @@ fn granted_of(put: &Put) -> i32
     put.granted
 }
 
-/// The number of a mitigation, by its trigger.
-fn put_byte(trigger: bool) -> u8
-    ensures { result ≡ put_number trigger }
+/// The number of a change that asks for a mitigation with this trigger.
+fn put_byte(format: Format, trigger: bool) -> u8
+    ensures { result ≡ put_number format trigger }
 {
-    if trigger { 1 } else { 13 }
+    match format {
+        Format::One if !trigger => 13,
+        _ => 1,
+    }
 }
 
 /// The number of a change.
-fn change_byte(change: &Change) -> u8
-    ensures { result ≡ change_number change.now }
+fn change_byte(format: Format, change: &Change) -> u8
+    ensures { result ≡ change_number format change.now }
 {
     match change {
-        Change::Put(put) => put_byte(put.trigger),
+        Change::Put(put) => put_byte(format, put.trigger),
         Change::Withdraw { .. } => 2,
         Change::SetAlias(_) => 3,
         Change::DropAlias { .. } => 4,
@@ -82,8 +86,8 @@ impl Writer {
     }
 
     fn aces(&mut self, aces: &[Ace])
-        requires { length aces.now ≤ 32 }
-        ensures written { Writes 3713 (listed ace_bytes aces.now) self.old self.new }
+        requires { length aces.now ≤ 64 }
+        ensures written { Writes 7425 (listed ace_bytes aces.now) self.old self.new }
         ensures typed { AllByRecursion IsAce aces.now }
     {
         self.byte(aces.len() as u8);
@@ -93,8 +97,8 @@ impl Writer {
     }
 
     fn acl(&mut self, acl: &Acl)
-        requires { length acl.now.aces ≤ 32 }
-        ensures written { Writes 3780 (acl_bytes acl.now) self.old self.new }
+        requires { length acl.now.aces ≤ 64 }
+        ensures written { Writes 7492 (acl_bytes acl.now) self.old self.new }
         ensures typed { IsAcl acl.now }
     {
         self.name(&acl.name);
@@ -105,8 +109,8 @@ impl Writer {
 
     fn target(&mut self, target: &Target)
         requires within { IsTrue (target_within target.now) }
-        requires prefixes { length target.now.prefixes ≤ 64 }
-        ensures written { Writes (83 + 18 * length target.now.prefixes) (target_bytes target.now) self.old self.new }
+        requires prefixes { length target.now.prefixes ≤ 128 }
+        ensures written { Writes (163 + 18 * length target.now.prefixes) (target_bytes target.now) self.old self.new }
         ensures typed { IsTarget target.now }
     {
         self.prefixes(target.prefixes.items());
@@ -117,8 +121,8 @@ impl Writer {
     fn targets(&mut self, targets: &[Target])
         requires count { length targets.now ≤ 9 }
         requires within { IsTrue (list_all target_within targets.now) }
-        requires prefixes { prefix_count targets.now ≤ 64 }
-        ensures written { Writes 1900 (listed target_bytes targets.now) self.old self.new }
+        requires prefixes { prefix_count targets.now ≤ 128 }
+        ensures written { Writes 3772 (listed target_bytes targets.now) self.old self.new }
         ensures typed { AllByRecursion IsTarget targets.now }
     {
         self.byte(targets.len() as u8);
@@ -127,9 +131,19 @@ impl Writer {
         }
     }
 
-    fn put(&mut self, put: &Put)
+    /// The trigger of a mitigation. In the first format the number of the change has it.
+    fn trigger(&mut self, format: Format, trigger: bool)
+        ensures { Writes 1 (trigger_bytes format trigger) self.old self.new }
+    {
+        match format {
+            Format::One => {}
+            Format::Two => self.byte(u8::from(trigger)),
+        }
+    }
+
+    fn put(&mut self, format: Format, put: &Put)
         requires { IsTrue (put_within put.now) }
-        ensures written { Writes 3329 (put_bytes put.now) self.old self.new }
+        ensures written { Writes 5570 (put_bytes format put.now) self.old self.new }
         ensures typed { IsPut put.now }
     {
         self.u32(put.mid);
@@ -137,6 +151,7 @@ impl Writer {
         self.targets(put.targets.items());
         self.u32(granted_of(put).cast_unsigned());
         self.u64(put.start);
+        self.trigger(format, put.trigger);
     }
 
     fn values(&mut self, values: &Values)
@@ -192,13 +207,13 @@ impl Writer {
     }
 
     /// The fields of a change.
-    fn fields(&mut self, change: &Change)
+    fn fields(&mut self, format: Format, change: &Change)
         requires { IsTrue (change_within change.now) }
-        ensures written { Writes 3780 (change_fields change.now) self.old self.new }
+        ensures written { Writes 7492 (change_fields format change.now) self.old self.new }
         ensures typed { IsChange change.now }
     {
         match change {
-            Change::Put(put) => self.put(put),
+            Change::Put(put) => self.put(format, put),
             Change::Withdraw { mid } => self.u32(*mid),
             Change::SetAlias(alias) => self.alias(alias),
             Change::DropAlias { name } => self.name(name),
@@ -213,9 +228,10 @@ impl Writer {
         }
     }
 
-    pub(crate) fn entry(&mut self, entry: &Entry)
+    /// The fields of an entry, in front of its seal.
+    fn body(&mut self, format: Format, entry: &Entry)
         requires { IsTrue (within_bounds entry.now) }
-        ensures written { Writes 3929 (record_bytes entry.now) self.old self.new }
+        ensures written { Writes 7641 (body_bytes format entry.now) self.old self.new }
         ensures typed { IsEntry entry.now }
     {
         self.u64(entry.time);
@@ -224,7 +240,22 @@ impl Writer {
         self.counted(entry.cuid.bytes());
         self.key(entry.key);
         self.reply(entry.reply.items());
-        self.byte(change_byte(&entry.change));
-        self.fields(&entry.change);
+        self.byte(change_byte(format, &entry.change));
+        self.fields(format, &entry.change);
+    }
+
+    /// The record of an entry, with nothing before it.
+    pub(crate) fn entry(&mut self, format: Format, entry: &Entry)
+        requires empty { self.old ≡ [] }
+        requires within { IsTrue (within_bounds entry.now) }
+        ensures written { self.new ≡ record_bytes format entry.now }
+        ensures short { length self.new ≤ 7649 }
+        ensures typed { IsEntry entry.now }
+    {
+        self.body(format, entry);
+        match format {
+            Format::One => {}
+            Format::Two => self.seal(),
+        }
     }
 }

@@ -35,7 +35,7 @@ impl Writer {
     }
 
     pub(crate) fn prefixes(&mut self, prefixes: &[Prefix])
-        requires { length prefixes.now ≤ 64 }
+        requires { length prefixes.now ≤ 128 }
         ensures written { Writes (1 + 18 * length prefixes.now) (listed prefix_bytes prefixes.now) self.old self.new }
         ensures typed { AllByRecursion IsPrefix prefixes.now }
     {
@@ -54,8 +54,8 @@ impl Writer {
     }
 
     pub(crate) fn ranges(&mut self, ranges: &[PortRange])
-        requires { length ranges.now ≤ 16 }
-        ensures written { Writes 65 (listed ports_bytes ranges.now) self.old self.new }
+        requires { length ranges.now ≤ 32 }
+        ensures written { Writes 129 (listed ports_bytes ranges.now) self.old self.new }
         ensures typed { AllByRecursion IsRange ranges.now }
     {
         self.byte(ranges.len() as u8);
@@ -77,7 +77,7 @@ impl Writer {
 
     pub(crate) fn asked(&mut self, asked: &Asked)
         requires { IsTrue (asked_within asked.now) }
-        ensures written { Writes 1413 (asked_bytes asked.now) self.old self.new }
+        ensures written { Writes 1781 (asked_bytes asked.now) self.old self.new }
         ensures typed { IsAsked asked.now }
     {
         self.prefixes(asked.prefixes.items());
@@ -89,7 +89,7 @@ impl Writer {
 
     pub(crate) fn alias(&mut self, alias: &Alias)
         requires { IsTrue (alias_within alias.now) }
-        ensures written { Writes 1478 (alias_bytes alias.now) self.old self.new }
+        ensures written { Writes 1846 (alias_bytes alias.now) self.old self.new }
         ensures typed { IsAlias alias.now }
     {
         self.name(&alias.name);

@@ -2,11 +2,12 @@
 use Rattle.std.proofs.Common.{◌≡◌, ◌≢◌, ℕ, ◌+◌, ◌*◌, ◌/◌, ◌%◌, ◌<◌, ◌≤◌, ◌⊎◌, inl, inr, List, [], ◌∷◌, ◌++◌, length, get_or, drop, sym, ap, subst, ◌∙◌, arith}
 use Rattle.std.proofs.lemmas.Bool.{cases_eq}
 use Rattle.dots_disk.specs.Media.{bytes_at}
+use Rattle.record_formats.specs.declared.format.Format.{Format}
 use Rattle.slot_store.specs.Layout.{place_of, IsSlot, IsHalf, IsJournal}
 use Rattle.slot_store.specs.StoreValues.{HasEither, sized}
 use Rattle.slot_store.specs.Opening.{IsOpening, IsOpened}
 use Rattle.slot_store.proofs.Places.{Agree, same_header, same_slot}
-use Rattle.slot_store.proofs.SameRecords.{journal_same, half_more}
+use Rattle.slot_store.proofs.SameRecords.{same_format, journal_same, half_more}
 
 -- slots of a half lie behind the header and behind each other
 pub behind_header : (slots half slot place : ℕ) → place < 64 → place < place_of slots half slot
@@ -44,11 +45,11 @@ agree_gate slots half used count seen image kept small slot above =
 
 -- ---- the gate is closed
 
-pub still_closed : (slots : ℕ) (digest : List ℕ) (records : List (List ℕ)) (count : ℕ) (seen image : ℕ → ℕ) → IsJournal slots digest seen records → count ≤ 8192
+pub still_closed : (slots : ℕ) (digest : List ℕ) (format : Format) (records : List (List ℕ)) (count : ℕ) (seen image : ℕ → ℕ) → IsJournal slots digest format seen records → count ≤ 8192
     → ((place : ℕ) → (place < place_of slots (seen 48 % 2) (length records) ⊎ place_of slots (seen 48 % 2) (length records) + count ≤ place) → image place ≡ seen place)
-    → image (place_of slots (seen 48 % 2) (length records)) ≢ 165 → IsJournal slots digest image records
-still_closed slots digest records count seen image is small kept gate =
-    journal_same slots digest seen image records (agree_front slots (seen 48 % 2) (length records) count seen image kept) (agree_used slots (seen 48 % 2) (length records) count seen image kept) closed is
+    → image (place_of slots (seen 48 % 2) (length records)) ≢ 165 → IsJournal slots digest format image records
+still_closed slots digest format records count seen image is small kept gate =
+    journal_same slots digest format seen image records (agree_front slots (seen 48 % 2) (length records) count seen image kept) (agree_used slots (seen 48 % 2) (length records) count seen image kept) closed is
   where
     closed : (slot : ℕ) → length records ≤ slot → slot < slots → image (place_of slots (seen 48 % 2) slot) ≢ 165
     closed slot low high = elim (cases_eq (length records) slot) [
@@ -58,15 +59,16 @@ still_closed slots digest records count seen image is small kept gate =
 
 -- ---- the gate is open, and the record stands behind it
 
-pub now_open : (slots : ℕ) (digest : List ℕ) (records : List (List ℕ)) (added : List ℕ) (count : ℕ) (seen image : ℕ → ℕ) → IsJournal slots digest seen records → length records < slots → count ≤ 8192
+pub now_open : (slots : ℕ) (digest : List ℕ) (format : Format) (records : List (List ℕ)) (added : List ℕ) (count : ℕ) (seen image : ℕ → ℕ) → IsJournal slots digest format seen records → length records < slots → count ≤ 8192
     → ((place : ℕ) → (place < place_of slots (seen 48 % 2) (length records) ⊎ place_of slots (seen 48 % 2) (length records) + count ≤ place) → image place ≡ seen place)
-    → IsSlot image (place_of slots (seen 48 % 2) (length records)) added → IsJournal slots digest image (records ++ added ∷ [])
-now_open slots digest records added count seen image is room small kept last =
+    → IsSlot image (place_of slots (seen 48 % 2) (length records)) added → IsJournal slots digest format image (records ++ added ∷ [])
+now_open slots digest format records added count seen image is room small kept last =
     let front = agree_front slots (seen 48 % 2) (length records) count seen image kept in
     let selector : image 48 ≡ seen 48 = front 48 (omega arith) (omega arith) in
     let half : seen 48 % 2 ≡ image 48 % 2 = ap (λ n. n % 2) (sym selector) in
     record {
       header = same_header slots digest seen image front is.header;
+      format_there = same_format format seen image front is.format_there;
       half = subst (λ half. IsHalf slots half image (records ++ added ∷ [])) half (half_more slots (seen 48 % 2) image records added room filled last closed);
     }
   where
@@ -81,11 +83,11 @@ now_open slots digest records added count seen image is room small kept last =
 
 -- ---- an image while a gate is opened holds the records, or one more
 
-pub either : (slots : ℕ) (digest : List ℕ) (records : List (List ℕ)) (added : List ℕ) (seen image : ℕ → ℕ) → IsJournal slots digest seen records → length records < slots → length added ≤ 8189
-    → IsOpening seen (place_of slots (seen 48 % 2) (length records)) (sized added) image → HasEither slots digest records (records ++ added ∷ []) image
-either slots digest records added seen image is room fits opening = elim (cases_eq (image (place_of slots (seen 48 % 2) (length records))) 165) [
-  | inl opened ↦ inr (inr (now_open slots digest records added (1 + length (sized added)) seen image is room (omega arith) kept (slot_of image (place_of slots (seen 48 % 2) (length records)) added opened fits (stands opened opening.gate))))
-  | inr closed ↦ inl (inr (still_closed slots digest records (1 + length (sized added)) seen image is (omega arith) kept closed))
+pub either : (slots : ℕ) (digest : List ℕ) (format : Format) (records : List (List ℕ)) (added : List ℕ) (seen image : ℕ → ℕ) → IsJournal slots digest format seen records → length records < slots → length added ≤ 8189
+    → IsOpening seen (place_of slots (seen 48 % 2) (length records)) (sized added) image → HasEither slots digest format records format (records ++ added ∷ []) image
+either slots digest format records added seen image is room fits opening = elim (cases_eq (image (place_of slots (seen 48 % 2) (length records))) 165) [
+  | inl opened ↦ inr (inr (now_open slots digest format records added (1 + length (sized added)) seen image is room (omega arith) kept (slot_of image (place_of slots (seen 48 % 2) (length records)) added opened fits (stands opened opening.gate))))
+  | inr closed ↦ inl (inr (still_closed slots digest format records (1 + length (sized added)) seen image is (omega arith) kept closed))
 ]
   where
     kept : (place : ℕ) → (place < place_of slots (seen 48 % 2) (length records) ⊎ place_of slots (seen 48 % 2) (length records) + (1 + length (sized added)) ≤ place) → image place ≡ seen place
@@ -98,10 +100,10 @@ either slots digest records added seen image is room fits opening = elim (cases_
     stands opened (inl same) = absurd (is.half.closed (length records) (omega arith) room (sym same ∙ opened))
     stands opened (inr bytes) = bytes
 
-pub one_more : (slots : ℕ) (digest : List ℕ) (records : List (List ℕ)) (added : List ℕ) (seen image : ℕ → ℕ) → IsJournal slots digest seen records → length records < slots → length added ≤ 8189
-    → IsOpened seen (place_of slots (seen 48 % 2) (length records)) (sized added) image → IsJournal slots digest image (records ++ added ∷ [])
-one_more slots digest records added seen image is room fits opened =
-    now_open slots digest records added (1 + length (sized added)) seen image is room (omega arith) kept (slot_of image (place_of slots (seen 48 % 2) (length records)) added opened.gate fits opened.bytes)
+pub one_more : (slots : ℕ) (digest : List ℕ) (format : Format) (records : List (List ℕ)) (added : List ℕ) (seen image : ℕ → ℕ) → IsJournal slots digest format seen records → length records < slots → length added ≤ 8189
+    → IsOpened seen (place_of slots (seen 48 % 2) (length records)) (sized added) image → IsJournal slots digest format image (records ++ added ∷ [])
+one_more slots digest format records added seen image is room fits opened =
+    now_open slots digest format records added (1 + length (sized added)) seen image is room (omega arith) kept (slot_of image (place_of slots (seen 48 % 2) (length records)) added opened.gate fits opened.bytes)
   where
     kept : (place : ℕ) → (place < place_of slots (seen 48 % 2) (length records) ⊎ place_of slots (seen 48 % 2) (length records) + (1 + length (sized added)) ≤ place) → image place ≡ seen place
     kept place (inl below) = opened.kept place (inl below)

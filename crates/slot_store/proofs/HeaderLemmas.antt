@@ -1,11 +1,13 @@
 -- The bytes of a header, part by part.
-use Rattle.std.proofs.Common.{zero, suc, ◌≡◌, inl, inr, ℕ, ◌+◌, ◌-◌, ◌<◌, ◌≤◌, List, [], ◌++◌, length, take, drop, replicate, length-drop, get_or, refl, sym, ap, ◌∙◌, arith, length-append}
+use Rattle.std.proofs.Common.{zero, suc, ◌≡◌, ◌⊎◌, inl, inr, ℕ, ◌+◌, ◌-◌, ◌<◌, ◌≤◌, List, [], ◌∷◌, ◌++◌, length, take, drop, replicate, length-drop, get_or, refl, sym, ap, ◌∙◌, arith, length-append}
 use Rattle.std.proofs.lemmas.Bool.{cases_lt}
 use Rattle.std.proofs.lemmas.List.{get_or_append_left, get_or-append_right, get_or_past, get_or-take, get_or-drop, length-take}
+use Rattle.record_formats.specs.declared.format.Format.{Format}
+use Rattle.record_formats.specs.Formats.{format_byte}
 use Rattle.slot_store.specs.Layout.{header_of}
 use Rattle.slot_store.proofs.FormatLemmas.{IsRest}
 use Rattle.dots_disk.specs.Media.{byte_of, overwritten}
-use Rattle.dots_disk.proofs.WrittenLemmas.{overwritten_below, overwritten_from}
+use Rattle.dots_disk.proofs.WrittenLemmas.{overwritten_below, overwritten_from, overwritten_outside}
 
 -- a part that is written behind the parts before it, with zeros after it
 pub part_more : (bytes : ℕ → ℕ) (front part : List ℕ) (at : ℕ) → length front ≡ at → ((place : ℕ) → bytes place ≡ byte_of front place) → (place : ℕ) → overwritten bytes at part place ≡ byte_of (front ++ part) place
@@ -37,10 +39,27 @@ zeros zero place = refl
 zeros (suc count) zero = refl
 zeros (suc count) (suc place) = zeros count place
 
+-- the formats, which are written behind the parts
+pub with_formats : (bytes : ℕ → ℕ) (list : List ℕ) (byte place : ℕ) → ((place : ℕ) → bytes place ≡ byte_of list place) → (place < 48 ⊎ 51 ≤ place) → overwritten bytes 49 (byte ∷ byte ∷ []) place ≡ byte_of list place
+with_formats bytes list byte place same outside = overwritten_outside bytes 49 (byte ∷ byte ∷ []) place (wider place outside) ∙ same place
+  where
+    wider : (place : ℕ) → (place < 48 ⊎ 51 ≤ place) → (place < 49 ⊎ 51 ≤ place)
+    wider place (inl low) = inl (omega arith)
+    wider place (inr high) = inr high
+
 -- the bytes behind the gate of a header
-pub is_rest : (slots : ℕ) (digest header : List ℕ) → length header ≡ 64 → ((place : ℕ) → byte_of header place ≡ byte_of (header_of slots digest) place) → byte_of (header_of slots digest) 48 ≡ 0 → IsRest slots digest (take 63 (drop 1 header))
-is_rest slots digest header size same selector = record {
+pub is_rest : (slots : ℕ) (digest : List ℕ) (format : Format) (header : List ℕ) → length header ≡ 64 → ((place : ℕ) → (place < 48 ⊎ 51 ≤ place) → byte_of header place ≡ byte_of (header_of slots digest) place) → byte_of header 48 ≡ 0
+    → byte_of header 49 ≡ format_byte format → IsRest slots digest format (take 63 (drop 1 header))
+is_rest slots digest format header size same selector says = record {
   size = let taken = length-take 63 (drop 1 header) in let dropped = length-drop 1 header in omega arith;
-  each = λ offset under. get_or-take 63 (drop 1 header) offset 0 under ∙ get_or-drop 1 header offset 0 ∙ same (1 + offset);
-  selector = selector;
+  each = λ offset under outside. byte offset under ∙ same (1 + offset) (later offset outside);
+  selector = byte 47 (omega arith) ∙ selector;
+  format_there = byte 48 (omega arith) ∙ says;
 }
+  where
+    byte : (offset : ℕ) → offset < 63 → get_or (take 63 (drop 1 header)) offset 0 ≡ byte_of header (1 + offset)
+    byte offset under = get_or-take 63 (drop 1 header) offset 0 under ∙ get_or-drop 1 header offset 0
+
+    later : (offset : ℕ) → (offset < 47 ⊎ 50 ≤ offset) → (1 + offset < 48 ⊎ 51 ≤ 1 + offset)
+    later offset (inl low) = inl (omega arith)
+    later offset (inr high) = inr (omega arith)

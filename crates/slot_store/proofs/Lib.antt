@@ -16,3 +16,4 @@ pub mod HeaderLemmas
 pub mod OpenLemmas
 pub mod Counting
 pub mod FoundLemmas
+pub mod Upgrading

@@ -1,5 +1,5 @@
 -- How a disk is opened, call by call.
-use Rattle.std.proofs.Common.{◌≡◌, ◌≢◌, inl, inr, ℕ, ◌+◌, ◌<◌, ◌≤◌, List, [], Option, Some, None, refl, sym, ap, subst, ◌∙◌, arith}
+use Rattle.std.proofs.Common.{◌≡◌, ◌≢◌, inl, inr, ℕ, ◌+◌, ◌%◌, ◌<◌, ◌≤◌, List, [], Option, Some, None, refl, sym, ap, subst, ◌∙◌, arith}
 use Rattle.std.specs.Prelude.{Result, Ok, Err, IfOk, IfErr}
 use Rattle.std.proofs.Math.Path.{fun_ext}
 use Rattle.dots_disk.specs.Media.{Medium, Media, byte_of, bytes_at, settled}
@@ -7,10 +7,12 @@ use Rattle.dots_disk.specs.Becoming.{Becomes, MayBecome, Stays, KeepsMedia, Leav
 use Rattle.dots_disk.proofs.WrittenLemmas.{byte_of_bytes_at}
 use Rattle.slot_store.specs.declared.fault.OpenFault.{OpenFault}
 use Rattle.slot_store.specs.declared.fault.OpenFault.TheVariants as fault
-use Rattle.slot_store.specs.Layout.{IsHeader, IsBlank, IsJournal, HasRecords}
+use Rattle.record_formats.specs.declared.format.Format.{Format}
+use Rattle.record_formats.specs.declared.format.Format.TheVariants.{Two}
+use Rattle.slot_store.specs.Layout.{format_place, IsHeader, HasFormat, IsBlank, IsJournal, HasRecords}
 use Rattle.slot_store.specs.Opening.{Is}
 use Rattle.slot_store.specs.Gates.{Sees}
-use Rattle.slot_store.specs.Refusing.{Fits, FirstWrong, IsForm, IsOtherHeader, RefusesHeader, RefusesGates, RefusesDisk, Refuses, IsOpen, front, rest, size}
+use Rattle.slot_store.specs.Refusing.{Fits, FirstWrong, HasSomeFormat, HasNoFormat, IsForm, IsOtherHeader, RefusesHeader, RefusesGates, RefusesDisk, Refuses, IsOpen, front, format as no_format, rest, size}
 use Rattle.slot_store.proofs.SameRecords.{gate_of_header}
 use Rattle.slot_store.proofs.Steps.{Images, Rests, leaves_as, leaves_then, rests_as}
 use Rattle.slot_store.proofs.OpeningLemmas.{rests_settled, images_at_rest}
@@ -75,15 +77,35 @@ wrong_seen slots digest seen found from to at read low is =
       wrong = λ same. is.wrong (found_byte seen found at read inside ∙ same);
     }
 
+-- the format of the half in use
+pub format_seen : (format : Format) (seen : ℕ → ℕ) (found : List ℕ) → found ≡ bytes_at seen 0 64 → HasFormat format (byte_of found) → HasFormat format seen
+format_seen format seen found read is =
+    ap (λ n. seen (format_place (n % 2))) (sym (found_byte seen found 48 read (omega arith))) ∙ sym (found_byte seen found (format_place (byte_of found 48 % 2)) read (omega arith)) ∙ is
+
+format_found : (format : Format) (seen : ℕ → ℕ) (found : List ℕ) → found ≡ bytes_at seen 0 64 → HasFormat format seen → HasFormat format (byte_of found)
+format_found format seen found read is =
+    found_byte seen found (format_place (byte_of found 48 % 2)) read (omega arith) ∙ ap (λ n. seen (format_place (n % 2))) (found_byte seen found 48 read (omega arith)) ∙ is
+
+some_seen : (seen : ℕ → ℕ) (found : List ℕ) → found ≡ bytes_at seen 0 64 → HasSomeFormat (byte_of found) → HasSomeFormat seen
+some_seen seen found read is = (is.0, format_seen is.0 seen found read is.1)
+
+none_seen : (seen : ℕ → ℕ) (found : List ℕ) (at : ℕ) → found ≡ bytes_at seen 0 64 → HasNoFormat (byte_of found) at → HasNoFormat seen at
+none_seen seen found at read is = record {
+  here = is.here ∙ ap (λ n. format_place (n % 2)) (found_byte seen found 48 read (omega arith));
+  none = λ format says. is.none format (format_found format seen found read says);
+}
+
 form_seen : (slots : ℕ) (digest : List ℕ) (seen : ℕ → ℕ) (found : List ℕ) → found ≡ bytes_at seen 0 64 → IsForm slots digest (byte_of found) → IsForm slots digest seen
 form_seen slots digest seen found read is = record {
   front = fits_seen slots digest seen found 1 12 read (omega arith) is.front;
-  rest = fits_seen slots digest seen found 49 64 read (omega arith) is.rest;
+  records = some_seen seen found read is.records;
+  rest = fits_seen slots digest seen found 51 64 read (omega arith) is.rest;
 }
 
 other_seen : (slots : ℕ) (digest : List ℕ) (seen : ℕ → ℕ) (found : List ℕ) (at : ℕ) → found ≡ bytes_at seen 0 64 → IsOtherHeader slots digest (byte_of found) at → IsOtherHeader slots digest seen at
 other_seen slots digest seen found at read (front wrong) = front (wrong_seen slots digest seen found 1 12 at read (omega arith) wrong)
-other_seen slots digest seen found at read (rest fits wrong) = rest (fits_seen slots digest seen found 1 12 read (omega arith) fits) (wrong_seen slots digest seen found 49 64 at read (omega arith) wrong)
+other_seen slots digest seen found at read (no_format fits none) = no_format (fits_seen slots digest seen found 1 12 read (omega arith) fits) (none_seen seen found at read none)
+other_seen slots digest seen found at read (rest fits says wrong) = rest (fits_seen slots digest seen found 1 12 read (omega arith) fits) (some_seen seen found read says) (wrong_seen slots digest seen found 51 64 at read (omega arith) wrong)
 other_seen slots digest seen found at read (size form fits wrong) = size (form_seen slots digest seen found read form) (fits_seen slots digest seen found 16 48 read (omega arith) fits) (wrong_seen slots digest seen found 12 16 at read (omega arith) wrong)
 
 pub header_refuses : (slots : ℕ) (digest : List ℕ) (seen : ℕ → ℕ) (found : List ℕ) (why : OpenFault) → found ≡ bytes_at seen 0 64 → byte_of found 0 ≡ 165 → RefusesHeader slots digest (byte_of found) why → RefusesDisk slots digest seen why
@@ -92,6 +114,7 @@ header_refuses slots digest seen found (fault.SettingsChanged stored) read gate 
   sym (found_byte seen found 0 read (omega arith)) ∙ gate,
   record {
     form = form_seen slots digest seen found read refuses.form;
+    long = refuses.long;
     digest_there = λ place low. refuses.digest_there place low ∙ found_byte seen found (16 + place) read (omega arith);
     wrong = (refuses.wrong.0, wrong_seen slots digest seen found 16 48 refuses.wrong.0 read (omega arith) refuses.wrong.1);
   },
@@ -112,26 +135,30 @@ header_seen slots digest seen found read is place low other = sym (found_byte se
 
 -- ---- what is held stays held
 
-pub has_still : (start new : Option Media) (slots : ℕ) (digest : List ℕ) (seen : ℕ → ℕ) (records : List (List ℕ)) → Leaves start new (Is seen) → HasRecords slots digest seen records → Leaves start new (λ image. HasRecords slots digest image records)
-has_still start new slots digest seen records leaves image_has = leaves_as start new (Is seen) (λ image. HasRecords slots digest image records) (λ image is. subst (λ image. HasRecords slots digest image records) (sym is) image_has) leaves
+pub has_still : (start new : Option Media) (slots : ℕ) (digest : List ℕ) (format : Format) (seen : ℕ → ℕ) (records : List (List ℕ)) → Leaves start new (Is seen) → HasRecords slots digest format seen records → Leaves start new (λ image. HasRecords slots digest format image records)
+has_still start new slots digest format seen records leaves image_has =
+    leaves_as start new (Is seen) (λ image. HasRecords slots digest format image records) (λ image is. subst (λ image. HasRecords slots digest format image records) (sym is) image_has) leaves
 
 -- without an open header gate the list is empty
-pub has_none : (slots : ℕ) (digest : List ℕ) (seen : ℕ → ℕ) (records : List (List ℕ)) → seen 0 ≢ 165 → HasRecords slots digest seen records → IsBlank slots seen [] × (records ≡ [])
-has_none slots digest seen records gate (inl blank) = (record { gate = blank.gate; gates = blank.gates; none = refl }, blank.none)
-has_none slots digest seen records gate (inr journal) = absurd (gate (gate_of_header slots digest seen journal.header))
+pub has_none : (slots : ℕ) (digest : List ℕ) (format : Format) (seen : ℕ → ℕ) (records : List (List ℕ)) → seen 0 ≢ 165 → HasRecords slots digest format seen records → IsBlank slots seen [] × (records ≡ []) × (format ≡ Two)
+has_none slots digest format seen records gate (inl blank) = (record { gate = blank.0.gate; gates = blank.0.gates; none = refl }, blank.0.none, blank.1)
+has_none slots digest format seen records gate (inr journal) = absurd (gate (gate_of_header slots digest seen journal.header))
 
-pub has_formatted : (start between new : Option Media) (slots : ℕ) (digest : List ℕ) (seen : ℕ → ℕ) (records : List (List ℕ)) → Leaves start between (Is seen) → seen 0 ≢ 165 → HasRecords slots digest seen records
-    → (IsBlank slots seen [] → Leaves between new (λ image. HasRecords slots digest image [])) → Leaves start new (λ image. HasRecords slots digest image records)
-has_formatted start between new slots digest seen records leaves gate image_has moments =
-    let none = has_none slots digest seen records gate image_has in
-    leaves_then start between new (λ image. HasRecords slots digest image records) (has_still start between slots digest seen records leaves image_has)
-    (subst (λ records. Leaves between new (λ image. HasRecords slots digest image records)) (sym none.1) (moments none.0))
+pub has_formatted : (start between new : Option Media) (slots : ℕ) (digest : List ℕ) (format : Format) (seen : ℕ → ℕ) (records : List (List ℕ)) → Leaves start between (Is seen) → seen 0 ≢ 165 → HasRecords slots digest format seen records
+    → (IsBlank slots seen [] → Leaves between new (λ image. HasRecords slots digest Two image [])) → Leaves start new (λ image. HasRecords slots digest format image records)
+has_formatted start between new slots digest format seen records leaves gate image_has moments =
+    let none = has_none slots digest format seen records gate image_has in
+    leaves_then start between new (λ image. HasRecords slots digest format image records) (has_still start between slots digest format seen records leaves image_has)
+    (subst (λ format. Leaves between new (λ image. HasRecords slots digest format image records)) (sym none.2)
+    (subst (λ records. Leaves between new (λ image. HasRecords slots digest Two image records)) (sym none.1) (moments none.0)))
 
-pub open_formatted : (new : Option Media) (slots : ℕ) (digest : List ℕ) (seen : ℕ → ℕ) → IsBlank slots seen [] → RestsWith new (λ image. IsJournal slots digest image [] × (image 48 ≡ 0)) → RestsWith new (IsOpen slots digest seen 0)
-open_formatted new slots digest seen blank rests = rests_as new (λ image. IsJournal slots digest image [] × (image 48 ≡ 0)) (IsOpen slots digest seen 0) (λ image is. record { selector_there = is.1; cases = inr (blank, is.0) }) rests
+pub open_formatted : (new : Option Media) (slots : ℕ) (digest : List ℕ) (seen : ℕ → ℕ) → IsBlank slots seen [] → RestsWith new (λ image. IsJournal slots digest Two image [] × (image 48 ≡ 0)) → RestsWith new (IsOpen slots digest seen 0 Two)
+open_formatted new slots digest seen blank rests =
+    rests_as new (λ image. IsJournal slots digest Two image [] × (image 48 ≡ 0)) (IsOpen slots digest seen 0 Two) (λ image is. record { selector_there = is.1; format_there = is.0.format_there; cases = inr (blank, is.0) }) rests
 
-pub open_as_it_was : (new : Option Media) (slots : ℕ) (digest : List ℕ) (seen : ℕ → ℕ) (selector : ℕ) → IsHeader slots digest seen → seen 48 ≡ selector → RestsWith new (Is seen) → RestsWith new (IsOpen slots digest seen selector)
-open_as_it_was new slots digest seen selector header is rests = rests_as new (Is seen) (IsOpen slots digest seen selector) (λ image same. record { selector_there = ap (λ image. image 48) same ∙ is; cases = inl (header, same) }) rests
+pub open_as_it_was : (new : Option Media) (slots : ℕ) (digest : List ℕ) (seen : ℕ → ℕ) (selector : ℕ) (format : Format) → IsHeader slots digest seen → seen 48 ≡ selector → HasFormat format seen → RestsWith new (Is seen) → RestsWith new (IsOpen slots digest seen selector format)
+open_as_it_was new slots digest seen selector format header is says rests =
+    rests_as new (Is seen) (IsOpen slots digest seen selector format) (λ image same. record { selector_there = ap (λ image. image 48) same ∙ is; format_there = subst (HasFormat format) (sym same) says; cases = inl (header, same) }) rests
 
 pub disk_refuses : (slots : ℕ) (digest : List ℕ) (extent : ℕ) (seen : ℕ → ℕ) (why : OpenFault) → RefusesDisk slots digest seen why → Refuses slots digest extent seen why
 disk_refuses slots digest extent seen (fault.NotOurs at) refuses = refuses

@@ -1,9 +1,12 @@
 -- Images that hold the records that another image holds, or one more.
-use Rattle.std.proofs.Common.{◌≡◌, ◌≢◌, ℕ, ◌+◌, ◌%◌, ◌<◌, ◌≤◌, inl, inr, List, [], ◌∷◌, ◌++◌, length, get_or, sym, ap, subst, ◌∙◌, arith, length-append}
+use Rattle.std.proofs.Common.{◌≡◌, ◌≢◌, ℕ, ◌+◌, ◌%◌, ◌<◌, ◌≤◌, inl, inr, List, [], ◌∷◌, ◌++◌, length, get_or, refl, sym, ap, subst, ◌∙◌, arith, length-append}
 use Rattle.std.proofs.lemmas.List.{get_or_append_left, get_or_push, ext_get_or}
 use Rattle.std.proofs.lemmas.Bool.{cases_lt}
 use Rattle.dots_disk.specs.Media.{bytes_at}
-use Rattle.slot_store.specs.Layout.{place_of, IsHeader, IsSlot, IsHalf, IsJournal, HasRecords}
+use Rattle.record_formats.specs.declared.format.Format.{Format}
+use Rattle.record_formats.specs.declared.format.Format.TheVariants.{One, Two}
+use Rattle.record_formats.specs.Formats.{format_byte}
+use Rattle.slot_store.specs.Layout.{place_of, format_place, IsHeader, HasFormat, IsSlot, IsHalf, IsJournal, HasRecords}
 use Rattle.slot_store.proofs.Places.{Agree, same_header, same_slot}
 
 -- the half in use of another image, with the slots of its records as they were and no other gate open
@@ -15,14 +18,21 @@ same_half slots half old new records filled closed is = record {
   closed = closed;
 }
 
-pub journal_same : (slots : ℕ) (digest : List ℕ) (old new : ℕ → ℕ) (records : List (List ℕ)) → Agree old new 0 64
+-- the format that the header says, where it stays
+pub same_format : (format : Format) (old new : ℕ → ℕ) → Agree old new 0 64 → HasFormat format old → HasFormat format new
+same_format format old new front is =
+    let selector : new 48 ≡ old 48 = front 48 (omega arith) (omega arith) in
+    ap (λ n. new (format_place (n % 2))) selector ∙ front (format_place (old 48 % 2)) (omega arith) (omega arith) ∙ is
+
+pub journal_same : (slots : ℕ) (digest : List ℕ) (format : Format) (old new : ℕ → ℕ) (records : List (List ℕ)) → Agree old new 0 64
     → ((slot : ℕ) → slot < length records → Agree old new (place_of slots (old 48 % 2) slot) 8192)
-    → ((slot : ℕ) → length records ≤ slot → slot < slots → new (place_of slots (old 48 % 2) slot) ≢ 165) → IsJournal slots digest old records → IsJournal slots digest new records
-journal_same slots digest old new records front filled closed is =
+    → ((slot : ℕ) → length records ≤ slot → slot < slots → new (place_of slots (old 48 % 2) slot) ≢ 165) → IsJournal slots digest format old records → IsJournal slots digest format new records
+journal_same slots digest format old new records front filled closed is =
     let selector : new 48 ≡ old 48 = front 48 (omega arith) (omega arith) in
     let half : old 48 % 2 ≡ new 48 % 2 = ap (λ n. n % 2) (sym selector) in
     record {
       header = same_header slots digest old new front is.header;
+      format_there = same_format format old new front is.format_there;
       half = subst (λ half. IsHalf slots half new records) half (same_half slots (old 48 % 2) old new records filled closed is.half);
     }
 
@@ -80,10 +90,20 @@ one_half slots half image first second a b =
     ]
 
 pub gate_of_header : (slots : ℕ) (digest : List ℕ) (image : ℕ → ℕ) → IsHeader slots digest image → image 0 ≡ 165
-gate_of_header slots digest image is = is 0 (omega arith) (omega arith)
+gate_of_header slots digest image is = is 0 (omega arith) (inl (omega arith))
 
-pub one_list : (slots : ℕ) (digest : List ℕ) (image : ℕ → ℕ) (first second : List (List ℕ)) → HasRecords slots digest image first → HasRecords slots digest image second → first ≡ second
-one_list slots digest image first second (inl a) (inl b) = a.none ∙ sym b.none
-one_list slots digest image first second (inl a) (inr b) = absurd (a.gate (gate_of_header slots digest image b.header))
-one_list slots digest image first second (inr a) (inl b) = absurd (b.gate (gate_of_header slots digest image a.header))
-one_list slots digest image first second (inr a) (inr b) = one_half slots (image 48 % 2) image first second a.half b.half
+-- a byte says one format at most
+one_byte : (format other : Format) → format_byte format ≡ format_byte other → format ≡ other
+one_byte One One is = refl
+one_byte One Two is = absurd (omega (arith, is))
+one_byte Two One is = absurd (omega (arith, is))
+one_byte Two Two is = refl
+
+pub one_format : (format other : Format) (image : ℕ → ℕ) → HasFormat format image → HasFormat other image → format ≡ other
+one_format format other image a b = one_byte format other (sym a ∙ b)
+
+pub one_list : (slots : ℕ) (digest : List ℕ) (format other : Format) (image : ℕ → ℕ) (first second : List (List ℕ)) → HasRecords slots digest format image first → HasRecords slots digest other image second → (format ≡ other) × (first ≡ second)
+one_list slots digest format other image first second (inl a) (inl b) = (a.1 ∙ sym b.1, a.0.none ∙ sym b.0.none)
+one_list slots digest format other image first second (inl a) (inr b) = absurd (a.0.gate (gate_of_header slots digest image b.header))
+one_list slots digest format other image first second (inr a) (inl b) = absurd (b.0.gate (gate_of_header slots digest image a.header))
+one_list slots digest format other image first second (inr a) (inr b) = (one_format format other image a.format_there b.format_there, one_half slots (image 48 % 2) image first second a.half b.half)

@@ -22,17 +22,17 @@ next_place store digest records seen at is stands = is ∙ ap (λ n. place_of st
 
 pub append_leaves : (start new : Option Media) (store : JournalValue) (digest : List ℕ) (records : List (List ℕ)) (added : List ℕ) (at : ℕ) (piece : List ℕ) → store.used < store.slots → length added ≤ 8189
     → at ≡ place_of store.slots (store.selector % 2) store.used → piece ≡ sized added → ((seen : ℕ → ℕ) → RestsWith start (Is seen) → Leaves start new (IsOpening seen at piece))
-    → RestsWith start (RepresentsRecords store digest records) → Leaves start new (HasEither store.slots digest records (records ++ added ∷ []))
+    → RestsWith start (RepresentsRecords store digest records) → Leaves start new (HasEither store.slots digest store.format records store.format (records ++ added ∷ []))
 append_leaves start new store digest records added at piece room fits place bytes moments rests =
     let found = seen_at_rest start (RepresentsRecords store digest records) rests in
-    leaves_as start new (IsOpening found.0 at piece) (HasEither store.slots digest records (records ++ added ∷ [])) (image_has found.0 found.2) (moments found.0 found.1)
+    leaves_as start new (IsOpening found.0 at piece) (HasEither store.slots digest store.format records store.format (records ++ added ∷ [])) (image_has found.0 found.2) (moments found.0 found.1)
   where
-    image_has : (seen : ℕ → ℕ) → RepresentsRecords store digest records seen → (image : ℕ → ℕ) → IsOpening seen at piece image → HasEither store.slots digest records (records ++ added ∷ []) image
+    image_has : (seen : ℕ → ℕ) → RepresentsRecords store digest records seen → (image : ℕ → ℕ) → IsOpening seen at piece image → HasEither store.slots digest store.format records store.format (records ++ added ∷ []) image
     image_has seen stands image opening =
         let used = stands.used in
         let space : length records < store.slots = omega arith in
         let sized_opening : IsOpening seen at (sized added) image = subst (λ piece. IsOpening seen at piece image) bytes opening in
-        either store.slots digest records added seen image stands.journal space fits (subst (λ at. IsOpening seen at (sized added) image) (next_place store digest records seen at place stands) sized_opening)
+        either store.slots digest store.format records added seen image stands.journal space fits (subst (λ at. IsOpening seen at (sized added) image) (next_place store digest records seen at place stands) sized_opening)
 
 pub append_rests : (start new : Option Media) (store : JournalValue) (digest : List ℕ) (records : List (List ℕ)) (added : List ℕ) (at : ℕ) (piece : List ℕ) → store.used < store.slots → length added ≤ 8189
     → at ≡ place_of store.slots (store.selector % 2) store.used → piece ≡ sized added → ((seen : ℕ → ℕ) → RestsWith start (Is seen) → RestsWith new (IsOpened seen at piece))
@@ -50,7 +50,7 @@ append_rests start new store digest records added at piece room fits place bytes
         let header : 48 < at = subst (λ at. 48 < at) (sym here) (behind_header store.slots (seen 48 % 2) (length records) 48 (omega arith)) in
         let size = length_push records added in
         record {
-          journal = one_more store.slots digest records added seen image stands.journal space fits (subst (λ at. IsOpened seen at (sized added) image) here sized_opened);
+          journal = one_more store.slots digest store.format records added seen image stands.journal space fits (subst (λ at. IsOpened seen at (sized added) image) here sized_opened);
           used = omega arith;
           selector = is.kept 48 (inl header) ∙ stands.selector;
         }

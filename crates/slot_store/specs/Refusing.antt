@@ -1,10 +1,12 @@
 -- Why a disk is refused: the first byte of its header that isn't this format's, or other settings.
-use Rattle.std.specs.Prelude.{◌≡◌, ◌≢◌, ℕ, ◌+◌, ◌<◌, ◌≤◌, ◌⊎◌, List, [], slice_index, Result, Err, ⊤}
+use Rattle.std.specs.Prelude.{◌≡◌, ◌≢◌, ℕ, ◌+◌, ◌%◌, ◌<◌, ◌≤◌, ◌⊎◌, List, [], length, slice_index, Result, Err, ⊤}
 use Rattle.dots_host.specs.Causes.{Rose}
 use Rattle.dots_disk.specs.Media.{byte_of}
+use Rattle.record_formats.specs.declared.format.Format.{Format}
+use Rattle.record_formats.specs.declared.format.Format.TheVariants.{Two}
 use Rattle.slot_store.specs.declared.fault.OpenFault.{OpenFault}
 use Rattle.slot_store.specs.declared.fault.OpenFault.TheVariants as fault
-use Rattle.slot_store.specs.Layout.{header_of, place_of, needed_of, IsHeader, IsBlank, IsJournal}
+use Rattle.slot_store.specs.Layout.{header_of, place_of, format_place, needed_of, IsHeader, HasFormat, IsBlank, IsJournal}
 
 -- the header's bytes stand from the one place up to the other
 abbrev pub Fits : ℕ → List ℕ → (ℕ → ℕ) → ℕ → ℕ → Type 0
@@ -17,20 +19,33 @@ pub record FirstWrong (slots : ℕ) (digest : List ℕ) (image : ℕ → ℕ) (f
   pub before : Fits slots digest image from at
   pub wrong : image at ≢ byte_of (header_of slots digest) at
 
--- the name of the format and its version stand there, and the zeros at the end
+-- The byte for the half in use says a format of records, whichever. That of the other half isn't looked at.
+abbrev pub HasSomeFormat : (ℕ → ℕ) → Type 0
+HasSomeFormat image = (format : Format) × HasFormat format image
+
+-- the byte for the half in use says no format of records, and this is its place
+pub record HasNoFormat (image : ℕ → ℕ) (at : ℕ) : Type 0 where
+  pub here : at ≡ format_place (image 48 % 2)
+  pub none : (format : Format) → HasFormat format image → ⊥
+
+-- the journal's name and its version stand there, a format of records, and the zeros at the end
 pub record IsForm (slots : ℕ) (digest : List ℕ) (image : ℕ → ℕ) : Type 0 where
   pub front : Fits slots digest image 1 12
-  pub rest : Fits slots digest image 49 64
+  pub records : HasSomeFormat image
+  pub rest : Fits slots digest image 51 64
 
--- The header is another format's, at this place: first its name and version and then the zeros are tested, then the digest, and at last the number of slots.
+-- The header is no journal's of these settings, at this place. Its name and version are tested first, then the format of the half in use, then
+-- the zeros, then the digest, and at last the number of slots.
 pub data IsOtherHeader (slots : ℕ) (digest : List ℕ) (image : ℕ → ℕ) (at : ℕ) : Type 0 where
   front : FirstWrong slots digest image 1 12 at → IsOtherHeader slots digest image at
-  rest : Fits slots digest image 1 12 → FirstWrong slots digest image 49 64 at → IsOtherHeader slots digest image at
+  format : Fits slots digest image 1 12 → HasNoFormat image at → IsOtherHeader slots digest image at
+  rest : Fits slots digest image 1 12 → HasSomeFormat image → FirstWrong slots digest image 51 64 at → IsOtherHeader slots digest image at
   size : IsForm slots digest image → Fits slots digest image 16 48 → FirstWrong slots digest image 12 16 at → IsOtherHeader slots digest image at
 
 -- the header is that of other settings, whose digest stands there
 pub record IsOfOthers (slots : ℕ) (digest : List ℕ) (image : ℕ → ℕ) (stored : List ℕ) : Type 0 where
   pub form : IsForm slots digest image
+  pub long : length stored ≡ 32
   pub digest_there : (place : ℕ) → place < 32 → slice_index stored place ≡ image (16 + place)
   pub wrong : (place : ℕ) × FirstWrong slots digest image 16 48 place
 
@@ -69,10 +84,11 @@ RefusesDisk slots digest seen (fault.TooSmall needed found) = ⊥
 RefusesDisk slots digest seen fault.DiskFault = ⊤
 RefusesDisk slots digest seen fault.NoMemory = ⊥
 
--- A disk that was opened: as it was, with the header of this format and these settings; or formatted where it was blank.
-pub record IsOpen (slots : ℕ) (digest : List ℕ) (seen : ℕ → ℕ) (selector : ℕ) (image : ℕ → ℕ) : Type 0 where
+-- A disk that was opened: as it was, with the header of a journal of these settings; or formatted where it was blank, in the second format.
+pub record IsOpen (slots : ℕ) (digest : List ℕ) (seen : ℕ → ℕ) (selector : ℕ) (format : Format) (image : ℕ → ℕ) : Type 0 where
   pub selector_there : image 48 ≡ selector
-  pub cases : (IsHeader slots digest seen × (image ≡ seen)) ⊎ (IsBlank slots seen [] × IsJournal slots digest image [])
+  pub format_there : HasFormat format image
+  pub cases : (IsHeader slots digest seen × (image ≡ seen)) ⊎ (IsBlank slots seen [] × IsJournal slots digest Two image [])
 
 -- why a store isn't opened: the disk is too small, or what a read gives is refused; memory and calls of the disk aside
 abbrev pub Refuses : ℕ → List ℕ → ℕ → (ℕ → ℕ) → OpenFault → Type 0

@@ -1,18 +1,21 @@
 //! The header of a disk.
 
-ghost use Rattle.std.specs.Prelude.{◌≡◌, ◌≢◌, ℕ, ◌+◌, ◌<◌, ◌≤◌, ◌⊎◌, length, slice_index, MatchOption, OnOk, IfErr, take};
+ghost use Rattle.std.specs.Prelude.{◌≡◌, ◌≢◌, ℕ, ◌+◌, ◌<◌, ◌≤◌, ◌⊎◌, length, slice_index, MatchOption, IfOk, IfErr, take};
 ghost use Rattle.dots_disk.specs.Media.{byte_of, overwritten};
-ghost use Rattle.slot_store.specs.Layout.{header_of, IsHeader};
+ghost use Rattle.record_formats.specs.Formats.{format_byte};
+ghost use Rattle.slot_store.specs.Layout.{header_of, IsHeader, HasFormat};
 ghost use Rattle.slot_store.specs.Refusing.{RefusesHeader};
 
 use crate::fault::OpenFault;
+use crate::layout::{SELECTOR, format_place};
 use crate::wanted::OPEN;
+use record_formats::{Format, format_byte};
 
-/// The bytes of a header, the selector and the zeros at its end among them.
+/// The bytes of a header, the selector, the formats and the zeros at its end among them.
 pub const HEADER: usize = 64;
 
-/// The open gate, the name of the format and its version.
-const FORMAT: [u8; 12] = [OPEN, b'D', b'O', b'T', b'S', b'J', b'N', b'L', 1, 0, 0, 0];
+/// The open gate, the journal's name and its version.
+const FRONT: [u8; 12] = [OPEN, b'D', b'O', b'T', b'S', b'J', b'N', b'L', 1, 0, 0, 0];
 
 /// Puts the bytes into a header from the place on.
 fn put(header: &mut [u8], at: usize, bytes: &[u8])
@@ -22,15 +25,24 @@ fn put(header: &mut [u8], at: usize, bytes: &[u8])
     header[at..at + bytes.len()].copy_from_slice(bytes);
 }
 
-/// The header of a disk that was just formatted.
-pub fn header(slots: u32, digest: &[u8; 32]) -> [u8; HEADER]
-    ensures bytes { (place : ℕ) → byte_of result place ≡ byte_of (header_of slots digest.now) place }
-    ensures selector { byte_of (header_of slots digest.now) 48 ≡ 0 }
+/// What a header says of the half in use.
+#[derive(Clone, Copy)]
+pub struct InUse {
+    pub selector: u8,
+    pub format: Format,
+}
+
+/// The header of a disk that was just formatted, with this format for both halves.
+pub fn header(slots: u32, digest: &[u8; 32], format: Format) -> [u8; HEADER]
+    ensures bytes { (place : ℕ) → (place < 48 ⊎ 51 ≤ place) → byte_of result place ≡ byte_of (header_of slots digest.now) place }
+    ensures selector { byte_of result 48 ≡ 0 }
+    ensures formats { (byte_of result 49 ≡ format_byte format) × (byte_of result 50 ≡ format_byte format) }
 {
     let mut header = [0; HEADER];
-    put(&mut header, 0, &FORMAT);
+    put(&mut header, 0, &FRONT);
     put(&mut header, 12, &slots.to_be_bytes());
     put(&mut header, 16, digest);
+    put(&mut header, 49, &[format_byte(format); 2]);
     header
 }
 
@@ -59,17 +71,34 @@ fn stored_digest(found: &[u8; HEADER]) -> [u8; 32]
     stored
 }
 
-/// Refuses the header of another format or of other settings, whose gate is open.
-pub fn check_header(found: &[u8; HEADER], slots: u32, digest: &[u8; 32]) -> Result<(), OpenFault>
+/// The format that a byte of a header says. None where it says none.
+fn format_of(byte: u8) -> Option<Format>
+    ensures { MatchOption result ((format : Format) → byte ≢ format_byte format) (λ format. byte ≡ format_byte format) }
+{
+    match byte {
+        0 => Some(Format::One),
+        2 => Some(Format::Two),
+        _ => None,
+    }
+}
+
+/// Refuses a header that is no journal's or of other settings, whose gate is open. Answers what it says of the half in use.
+pub fn check_header(found: &[u8; HEADER], slots: u32, digest: &[u8; 32]) -> Result<InUse, OpenFault>
     requires { slice_index found.now 0 ≡ 165 }
-    ensures ok { OnOk result (IsHeader slots digest.now (byte_of found.now)) }
+    ensures ok { IfOk result (λ in_use. IsHeader slots digest.now (byte_of found.now) ×
+        (byte_of found.now 48 ≡ in_use.selector) × HasFormat in_use.format (byte_of found.now)) }
     ensures err { IfErr result (RefusesHeader slots digest.now (byte_of found.now)) }
 {
-    let wanted = header(slots, digest);
+    let wanted = header(slots, digest, Format::Two);
     if let Some(at) = first_wrong(found, &wanted, 1, 12) {
         return Err(OpenFault::NotOurs { at: at as u64 });
     }
-    if let Some(at) = first_wrong(found, &wanted, 49, 64) {
+    let selector = found[SELECTOR as usize];
+    let at = format_place(selector % 2);
+    let Some(format) = format_of(found[at as usize]) else {
+        return Err(OpenFault::NotOurs { at });
+    };
+    if let Some(at) = first_wrong(found, &wanted, 51, 64) {
         return Err(OpenFault::NotOurs { at: at as u64 });
     }
     if first_wrong(found, &wanted, 16, 48).is_some() {
@@ -79,5 +108,5 @@ pub fn check_header(found: &[u8; HEADER], slots: u32, digest: &[u8; 32]) -> Resu
     if let Some(at) = first_wrong(found, &wanted, 12, 16) {
         return Err(OpenFault::NotOurs { at: at as u64 });
     }
-    Ok(())
+    Ok(InUse { selector, format })
 }

@@ -3,8 +3,10 @@
 ghost use Rattle.std.specs.Prelude.{◌≡◌, ℕ, List};
 ghost use Rattle.slot_store.specs.Layout.{HasRecords};
 
-/// An image of a disk holds one list of records at most.
+use record_formats::Format;
+
+/// An image of a disk holds one list of records at most, of one format.
 pub fn one_list()
-    ensures { (slots : ℕ) (digest : List ℕ) (image : ℕ → ℕ) (first second : List (List ℕ)) →
-        HasRecords slots digest image first → HasRecords slots digest image second → first ≡ second }
+    ensures { (slots : ℕ) (digest : List ℕ) (format other : Format) (image : ℕ → ℕ) (first second : List (List ℕ)) →
+        HasRecords slots digest format image first → HasRecords slots digest other image second → (format ≡ other) × (first ≡ second) }
 {}

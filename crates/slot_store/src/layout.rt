@@ -1,7 +1,7 @@
 //! Where a journal lies on a disk.
 
 ghost use Rattle.std.specs.Prelude.{◌≡◌, ◌<◌};
-ghost use Rattle.slot_store.specs.Layout.{place_of, needed_of};
+ghost use Rattle.slot_store.specs.Layout.{place_of, needed_of, format_place};
 
 /// The bytes of a slot: its gate, two bytes of length, and the record.
 pub const SLOT: usize = 8192;
@@ -19,6 +19,14 @@ pub fn place_of(slots: u32, half: u8, slot: u32) -> u64
 
 /// The place of the selector, whose lowest bit names the half in use.
 pub const SELECTOR: u64 = 48;
+
+/// The place of the byte that says a half's format.
+pub fn format_place(half: u8) -> u64
+    requires { half < 2 }
+    ensures { result ≡ format_place half }
+{
+    49 + u64::from(half)
+}
 
 /// How many bytes a journal needs.
 pub fn needed_of(slots: u32) -> u64

@@ -3,10 +3,10 @@ use Rattle.entry_records.proofs.Places.{one_entry}
 use Rattle.entry_records.proofs.laws.one_record.Goals as goal
 
 pub returns-clause-some : goal.returns-clause-some
-returns-clause-some c = λ entry typed within. record { typed = typed; within = within; is = refl }
+returns-clause-some c = λ format entry typed within. record { typed = typed; within = within; is = refl }
 
 pub returns-clause-bytes : goal.returns-clause-bytes
-returns-clause-bytes c = λ first second entry a b. a.is ∙ sym b.is
+returns-clause-bytes c = λ format first second entry a b. a.is ∙ sym b.is
 
 pub returns-clause-entry : goal.returns-clause-entry
 returns-clause-entry c = one_entry

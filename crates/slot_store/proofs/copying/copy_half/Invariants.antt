@@ -1,8 +1,7 @@
-use Rattle.std.proofs.Common.{◌≡◌, ℕ, ◌-◌, ◌*◌}
+use Rattle.std.proofs.Common.{◌≡◌, ℕ, ◌-◌}
 use Rattle.dots_disk.specs.Becoming.{RestsWith}
-use Rattle.slot_store.specs.Layout.{place_of}
 use Rattle.slot_store.specs.Opening.{Is}
-use Rattle.slot_store.specs.Copying.{Elsewhere}
+use Rattle.slot_store.specs.Copying.{BesideHalf}
 use Rattle.slot_store.proofs.Stages.{Stage}
 use Rattle.slot_store.proofs.CopyingLemmas.{Copying}
 use Rattle.slot_store.proofs.copying.copy_half.Given as goal
@@ -13,5 +12,5 @@ invariant-loop-slot g l = record {
   faults : g.D.Disk.faults l.disk ≡ g.D.Disk.faults l.fn.disk;
   beside : g.D.Disk.beside l.fn.disk l.disk;
   copied : (seen : ℕ → ℕ) → RestsWith (g.D.Disk.media l.fn.disk) (Is seen) →
-      Stage (g.D.Disk.media l.fn.disk) (g.D.Disk.media l.disk) (Elsewhere seen (place_of l.slots (1 - l.half) 0) (8192 * l.slots)) (Copying l.slots l.half l.keep seen l.slot);
+      Stage (g.D.Disk.media l.fn.disk) (g.D.Disk.media l.disk) (BesideHalf l.slots (1 - l.half) seen) (Copying l.slots l.half l.format l.keep seen l.slot);
 }

@@ -13,7 +13,8 @@ returns-clause-keeps g c = reads_more _ _ _ (reads_none _) c.in_ok-read.ensures.
 
 pub returns-clause-copy : goal.returns-clause-copy
 returns-clause-copy g c = λ seen sees.
-    read_copy _ c.args.slots c.args.half c.args.keep.now seen c.args.slot _ c.place_of-at.result _ c.read.new.into c.requires.room refl c.if-index-keep.false c.place_of-at.ensures c.in_ok-read.ensures.bytes sees
+    read_copy _ c.args.slots c.args.half c.args.format c.args.keep.now seen c.args.slot _ c.place_of-at.result _ c.read.new.into c.rewrite.new.room c.requires.room refl c.if-index-keep.false c.place_of-at.ensures c.in_ok-read.ensures.bytes sees
+    c.rewrite.ensures.slot
 
 pub read-requires : goal.read-requires
 read-requires g c =

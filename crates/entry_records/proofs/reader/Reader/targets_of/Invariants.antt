@@ -6,7 +6,7 @@ use Rattle.entry_records.proofs.reader.Reader.targets_of.Given as goal
 -- the targets so far and those to come are all of them
 abbrev pub invariant-loop : goal.invariant-loop
 invariant-loop l = record {
-  read : with_front l.targets (targets_at (l.count - l.counter) l.room l.self.end l.self.rest.now) ≡ targets_at l.count 64 l.fn.self.end l.fn.self.rest.now;
+  read : with_front l.targets (targets_at (l.count - l.counter) l.room l.self.end l.self.rest.now) ≡ targets_at l.count 128 l.fn.self.end l.fn.self.rest.now;
   end : l.self.end ≡ l.fn.self.end;
-  room : l.room ≤ 64;
+  room : l.room ≤ 128;
 }

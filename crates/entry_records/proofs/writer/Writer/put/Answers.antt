@@ -12,7 +12,7 @@ pub returns-clause-written : goal.returns-clause-written
 unfolding put_bytes
 returns-clause-written c =
     let granted = c.cast_unsigned.ensures ∙ ap (cast_unsigned w32) (to_z-of_z w32 c.granted_of.result (record { sfits = c.granted_of.type_inv }) ∙ c.granted_of.ensures) in
-    both c.u32.ensures.written (both c.asked.ensures.written (both (same c.targets.ensures.written (ap (listed target_bytes) c.items.ensures)) (both (same c.u32-2.ensures.written (ap (to_be_bytes w32) granted)) c.u64.ensures.written)))
+    both c.u32.ensures.written (both c.asked.ensures.written (both (same c.targets.ensures.written (ap (listed target_bytes) c.items.ensures)) (both (same c.u32-2.ensures.written (ap (to_be_bytes w32) granted)) (both c.u64.ensures.written c.trigger.ensures))))
 
 pub returns-clause-typed : goal.returns-clause-typed
 returns-clause-typed c = record {

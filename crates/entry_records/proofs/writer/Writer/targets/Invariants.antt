@@ -9,6 +9,6 @@ use Rattle.entry_records.proofs.writer.Writer.targets.Given as goal
 
 abbrev pub invariant-loop-target : goal.invariant-loop-target
 invariant-loop-target l = record {
-  written : Writes (1 + (83 * l.target-index + 18 * prefix_count (take l.target-index l.targets))) (length l.targets ∷ flat_map target_bytes (take l.target-index l.targets)) l.fn.self l.self;
+  written : Writes (1 + (163 * l.target-index + 18 * prefix_count (take l.target-index l.targets))) (length l.targets ∷ flat_map target_bytes (take l.target-index l.targets)) l.fn.self l.self;
   typed : AllByRecursion IsTarget (take l.target-index l.targets);
 }

@@ -1,6 +1,8 @@
-use Rattle.std.proofs.Common.{◌∙◌, ap, sym, subst, ℕ, ◌%◌, length, arith}
+use Rattle.std.proofs.Common.{◌∙◌, ap, sym, subst, ℕ, ◌%◌, length, map, arith}
 use Rattle.std.proofs.lemmas.Grind.{elements}
 use Rattle.dots_disk.specs.Becoming.{Leaves, RestsWith}
+use Rattle.record_formats.specs.declared.format.Format.TheVariants.{Two}
+use Rattle.record_formats.specs.Formats.{rewritten}
 use Rattle.slot_store.specs.Opening.{Is}
 use Rattle.slot_store.specs.StoreValues.{RepresentsRecords, JournalValue}
 use Rattle.slot_store.specs.Copying.{IsMoving, IsMoved, kept_of, other_selector}
@@ -14,7 +16,7 @@ move_half-requires g c =
     let size = c.requires.size in
     let within = c.self.invariant.1 in
     let room = c.self.invariant.0 in
-    let same = ap length c.as_mut_slice.ensures.value in
+    let same = ap length c.as_mut_slice-room.ensures.value in
     record {
       size = omega (arith, slots, size);
       keep = λ slot inside. let under = c.requires.keep slot inside in omega (arith, under, used, within);
@@ -35,19 +37,19 @@ invariant_of-self g c =
 
 pub returns-in-Ok : goal.returns-in-Ok
 returns-in-Ok g c =
-    let next = ap (λ (store : JournalValue). record store { selector = other_selector store.selector; used = length c.args.keep.now }) c.self.view_is in
-    let chosen = ap (λ (selector : ℕ). record { slots = c.self.inside.slots; selector = selector; used = length c.args.keep.now }) c.other_selector-selector.ensures in
-    let moved = subst (λ (store : JournalValue). (seen : ℕ → ℕ) → RestsWith (g.D.Disk.media c.args.disk.now) (Is seen) → RestsWith (g.D.Disk.media c.move_half.new.disk) (IsMoved store.slots (store.selector % 2) c.args.keep.now seen (other_selector store.selector)))
+    let next = ap (λ (store : JournalValue). record store { selector = other_selector store.selector; used = length c.args.keep.now; format = Two }) c.self.view_is in
+    let chosen = ap (λ (selector : ℕ). record { slots = c.self.inside.slots; selector = selector; used = length c.args.keep.now; format = Two }) c.other_selector-selector.ensures in
+    let moved = subst (λ (store : JournalValue). (seen : ℕ → ℕ) → RestsWith (g.D.Disk.media c.args.disk.now) (Is seen) → RestsWith (g.D.Disk.media c.move_half.new.disk) (IsMoved store.slots (store.selector % 2) store.format c.args.keep.now seen (other_selector store.selector)))
     c.self.view_is c.in-Ok.ensures.moved in
     record {
       next = chosen ∙ next;
       same = tt;
       moments = λ digest records rests.
           compact_leaves _ _ c.args.self.now digest records c.args.keep.now c.requires.few c.requires.keep
-          (subst (λ (store : JournalValue). (seen : ℕ → ℕ) → RestsWith (g.D.Disk.media c.args.disk.now) (Is seen) → Leaves (g.D.Disk.media c.args.disk.now) (g.D.Disk.media c.move_half.new.disk) (IsMoving store.slots (store.selector % 2) c.args.keep.now seen))
+          (subst (λ (store : JournalValue). (seen : ℕ → ℕ) → RestsWith (g.D.Disk.media c.args.disk.now) (Is seen) → Leaves (g.D.Disk.media c.args.disk.now) (g.D.Disk.media c.move_half.new.disk) (IsMoving store.slots (store.selector % 2) store.format c.args.keep.now seen))
           c.self.view_is c.in-Ok.ensures.moments) rests;
       rests = λ digest records rests.
-          subst (λ (store : JournalValue). RestsWith (g.D.Disk.media c.move_half.new.disk) (RepresentsRecords store digest (kept_of records c.args.keep.now))) (sym (chosen ∙ next))
+          subst (λ (store : JournalValue). RestsWith (g.D.Disk.media c.move_half.new.disk) (RepresentsRecords store digest (map (rewritten c.args.self.now.format) (kept_of records c.args.keep.now)))) (sym (chosen ∙ next))
           (compact_rests _ _ c.args.self.now digest records c.args.keep.now c.requires.few c.requires.keep moved rests);
       extent = c.in-Ok.ensures.extent;
       cause = record { later = c.in-Ok.ensures.cause.later; same = c.in-Ok.ensures.cause.same; rose = tt };
@@ -60,7 +62,7 @@ returns-in-Err g c = record {
   same = c.self.view_is;
   moments = λ digest records rests.
       compact_leaves _ _ c.args.self.now digest records c.args.keep.now c.requires.few c.requires.keep
-      (subst (λ (store : JournalValue). (seen : ℕ → ℕ) → RestsWith (g.D.Disk.media c.args.disk.now) (Is seen) → Leaves (g.D.Disk.media c.args.disk.now) (g.D.Disk.media c.move_half.new.disk) (IsMoving store.slots (store.selector % 2) c.args.keep.now seen))
+      (subst (λ (store : JournalValue). (seen : ℕ → ℕ) → RestsWith (g.D.Disk.media c.args.disk.now) (Is seen) → Leaves (g.D.Disk.media c.args.disk.now) (g.D.Disk.media c.move_half.new.disk) (IsMoving store.slots (store.selector % 2) store.format c.args.keep.now seen))
       c.self.view_is c.in-Err.ensures.moments) rests;
   rests = tt;
   extent = c.in-Err.ensures.extent;

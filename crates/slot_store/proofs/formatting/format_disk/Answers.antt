@@ -1,10 +1,11 @@
 use Rattle.std.proofs.Common.{arith, refl, subst, ◌∙◌, ◌≡◌, ℕ, length}
 use Rattle.std.proofs.lemmas.Result.{err_from_is_err_and}
 use Rattle.dots_host.specs.Causes.{Rose}
+use Rattle.record_formats.specs.declared.format.Format.TheVariants.{Two}
 use Rattle.slot_store.proofs.DiskReading.{sees_at_rest}
 use Rattle.slot_store.proofs.HeaderLemmas.{is_rest}
 use Rattle.slot_store.proofs.FormatLemmas.{format_reads, format_leaves, format_rests}
-use Rattle.slot_store.proofs.formatting.format.Goals as goal
+use Rattle.slot_store.proofs.formatting.format_disk.Goals as goal
 
 pub returns-in_err-check_gates : goal.returns-in_err-check_gates
 returns-in_err-check_gates g c =
@@ -23,7 +24,7 @@ returns-in_err-check_gates g c =
 pub returns-in-Ok : goal.returns-in-Ok
 returns-in-Ok g c =
     let size : length c.header-header.result ≡ 64 = omega arith in
-    let rest = is_rest c.args.slots c.args.digest.now c.header-header.result size c.header-header.ensures.bytes c.header-header.ensures.selector in
+    let rest = is_rest c.args.slots c.args.digest.now Two c.header-header.result size c.header-header.ensures.bytes c.header-header.ensures.selector c.header-header.ensures.formats.0 in
     record {
       moments = λ seen rests blank. format_leaves _ _ _ c.args.slots c.args.digest.now _ seen rest c.in_ok-check_gates.ensures.keeps c.in-Ok.ensures.moments rests blank;
       blank = λ seen rests gate. c.in_ok-check_gates.ensures.none seen (sees_at_rest _ seen rests) gate;
@@ -39,7 +40,7 @@ returns-in-Ok g c =
 pub returns-in-Err : goal.returns-in-Err
 returns-in-Err g c =
     let size : length c.header-header.result ≡ 64 = omega arith in
-    let rest = is_rest c.args.slots c.args.digest.now c.header-header.result size c.header-header.ensures.bytes c.header-header.ensures.selector in
+    let rest = is_rest c.args.slots c.args.digest.now Two c.header-header.result size c.header-header.ensures.bytes c.header-header.ensures.selector c.header-header.ensures.formats.0 in
     record {
       moments = λ seen rests blank. format_leaves _ _ _ c.args.slots c.args.digest.now _ seen rest c.in_ok-check_gates.ensures.keeps c.in-Err.ensures.moments rests blank;
       blank = tt;

@@ -1,0 +1,2 @@
+pub mod Triggering
+pub mod Upgrades
