@@ -16,7 +16,6 @@ use Rattle.dots_laws.specs.Calm.{came_rightly}
 use Rattle.dots_laws.specs.Fits.{last_or, last_time, fits, joins, is_calm, has_one_peer}
 use Rattle.dots_laws.proofs.CalmCuts.{calm_more, calm_parts}
 use Rattle.dots_laws.proofs.Composing.{kept_refl}
-use Rattle.entry_records.specs.Layout.{record_bytes}
 use Rattle.dots_registry.specs.Kept.{filed}
 use Rattle.dots_registry.proofs.Numbering.{filed_entries, filed_more}
 use Rattle.dots_laws.specs.Filed.{Filed}
@@ -175,7 +174,7 @@ time_begun settings entries r at time now taken is most = most ∙ ap (max at) (
 pub used_many : (new : Option Media) (settings : SettingsValue) (j : JournalValue) (entries : List Entry) → RestsWith new (journal.Represents j settings entries)
     → j.used ≡ length entries
 used_many None settings j entries rests = absurd rests
-used_many (Some media) settings j entries rests = rests.1.represents.used ∙ length-map entries record_bytes
+used_many (Some media) settings j entries rests = rests.1.represents.used ∙ length-map entries _
 
 pub refuses_stray : (settings : SettingsValue) (extent : ℕ) (seen : ℕ → ℕ) (new : Option Media) (j : JournalValue) (entries : List Entry) (why : JournalFault)
     → j.slots ≡ slots_of settings → HasEntries settings seen entries → RestsWith new (journal.Represents j settings entries) → RefusesEntries settings j entries why

@@ -1,5 +1,5 @@
 -- A disk of zeros is ready for any settings.
-use Rattle.std.proofs.Common.{ℕ, ◌+◌, ◌^◌, ◌≤◌, List, [], length, Option, Some, inl, refl, arith}
+use Rattle.std.proofs.Common.{ℕ, ◌+◌, ◌^◌, ◌≤◌, List, [], length, Option, Some, refl, arith}
 use Rattle.std.proofs.lemmas.List.Sums.{count_by-le-length}
 use Rattle.std.proofs.Math.Nat.{mul-le-mul_right}
 use Rattle.dots_disk.specs.Media.{byte_of, blank}
@@ -10,12 +10,8 @@ use Rattle.dots_settings.proofs.Sound.{given_settings}
 use Rattle.slot_store.specs.Layout.{needed_of}
 use Rattle.dots_settings.specs.Sizes.{most_of_domain}
 use Rattle.slot_journal.specs.Sizes.{is_client_role, actors_of, slots_of}
-use Rattle.slot_journal.specs.DiskEntries.{HasEntries}
+use Rattle.slot_journal.proofs.Crashing.{zeros_have_nothing}
 use Rattle.dots_machine.specs.Endings.{GivesSettings, IsReady}
-
--- it holds no entry
-pub zeros_have_nothing : (settings : SettingsValue) → HasEntries settings (byte_of []) []
-zeros_have_nothing settings = record { records = inl (record { gate = λ is. cc is; gates = λ half slot low under. refl; none = refl }); each = tt }
 
 of_domain : (limits : Limits) → AreLimits limits → most_of_domain limits ≤ 328
 of_domain limits are =

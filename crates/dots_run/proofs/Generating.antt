@@ -16,7 +16,7 @@ use Rattle.dots_settings.specs.Settings.{SettingsValue}
 use Rattle.dots_settings.specs.File.{SettingsAre}
 use Rattle.dots_history.specs.declared.entry.Entry.{Entry}
 use Rattle.slot_journal.specs.DiskEntries.{HasEntries}
-use Rattle.slot_journal.proofs.Crashing.{one_history}
+use Rattle.slot_journal.proofs.Crashing.{one_history, zeros_have_nothing}
 use Rattle.dots_machine.specs.Machine.{State, begun_from}
 use Rattle.dots_machine.specs.Surviving.{Story}
 use Rattle.dots_load.specs.Domains.{settings_text}
@@ -24,7 +24,6 @@ use Rattle.dots_load.specs.Events.{load_events}
 use Rattle.dots_load.specs.Report.{sends_in, unavailable, load_text}
 use Rattle.dots_load.proofs.Coming.{all_come}
 use Rattle.dots_run.specs.Load.{rows_of, LoadReported, RunsToEnd}
-use Rattle.dots_run.proofs.Blank.{zeros_have_nothing}
 
 -- an empty disk sees zeros
 pub sees_zeros : (disk : Stored) → disk.base ≡ [] → disk.acts ≡ [] → (media_of disk).now.seen ≡ byte_of []

@@ -15,14 +15,13 @@ use Rattle.dots_machine.specs.declared.ending.Stop.TheVariants as stop
 use Rattle.dots_disk.specs.Media.{byte_of, blank}
 use Rattle.dots_disk.specs.Beside.{KeepsActs}
 use Rattle.slot_store.specs.Gates.{Sees}
-use Rattle.slot_journal.proofs.Crashing.{one_history}
+use Rattle.slot_journal.proofs.Crashing.{one_history, zeros_have_nothing}
 use Rattle.dots_machine.specs.Machine.{State, begun_from}
 use Rattle.dots_machine.specs.Outside.{Outside}
 use Rattle.dots_machine.specs.Endings.{by_disk, HasRun, RunsFrom, Serves, Reports, Behaves, status_of, has_hosted}
 use Rattle.dots_machine.specs.Report.{report_of}
 use Rattle.dots_run.specs.Blocks.{seeing, RunsInBlocks}
 use Rattle.dots_run.specs.Scripted.{Replays, JoinsTexts}
-use Rattle.dots_run.proofs.Blank.{zeros_have_nothing}
 
 abbrev pub outer_of : Option (List ℕ) → Option (List ℕ) → ℕ → Outer
 outer_of script written failures = record { script = script; written = written; failures = failures }

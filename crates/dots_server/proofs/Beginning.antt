@@ -19,10 +19,9 @@ use Rattle.slot_store.specs.Layout.{needed_of}
 use Rattle.slot_store.specs.StoreValues.{JournalValue}
 use Rattle.slot_journal.specs.declared.fault.JournalFault.{JournalFault}
 use Rattle.slot_journal.specs.Sizes.{slots_of}
-use Rattle.slot_journal.specs.DiskEntries.{HasRecord, HasEntries, records_of}
+use Rattle.slot_journal.specs.DiskEntries.{HasRecord, HasEntries}
 use Rattle.slot_journal.specs.DiskEntries as journal
-use Rattle.slot_journal.proofs.Writing.{image_has}
-use Rattle.slot_journal.proofs.Crashing.{one_history}
+use Rattle.slot_journal.proofs.Crashing.{one_history, represents_has}
 use Rattle.slot_journal.specs.Untaken.{RefusesLedger, IsFailure}
 use Rattle.dots_ledger.specs.LedgerValues.{LedgerValue}
 use Rattle.dots_ledger.specs.LedgerValues as ledger
@@ -163,10 +162,6 @@ module _ (settings : SettingsValue) (at : ℕ) (old new : ServerValue) (state : 
       }
 
 -- ---- the disk
-
--- a journal that represents entries on an image: the image holds them
-pub represents_has : (value : JournalValue) (settings : SettingsValue) (entries : List Entry) (image : ℕ → ℕ) → journal.Represents value settings entries image → HasEntries settings image entries
-represents_has value settings entries image is = image_has settings value.slots image (records_of entries) entries is.slots (record { same = refl; each = is.each }) (inr is.represents.journal)
 
 -- where the disk rests with them, a read gives them, and what is recovered is the same
 pub seen_of : (media : Option Media) (P : (ℕ → ℕ) → Type 0) → RestsWith media P → (seen : ℕ → ℕ) × Sees media seen × RestsWith media (Is seen) × P seen

@@ -28,7 +28,7 @@ use Rattle.dots_machine.specs.Handlings.{AreSends}
 use Rattle.dots_machine.specs.Surviving.{Story, shown_by, time_at, past_of, NoneBefore, MeansAt, LeavesAt}
 use Rattle.dots_machine.proofs.Surviving.{IsAt, ran_whole, story_length, story_then, gives_late, none_then, none_earlier, leaves_at_none, leaves_at_so, leaves_at_past, leaves_past, keeps_past, rests_still, event_on, turn_on, broken_on, step_timely}
 use Rattle.dots_server.specs.Turning.{Turned, Broke, Stored, LiesOn, IsStored, Grows, last_left, Chained}
-use Rattle.dots_server.proofs.Beginning.{represents_has}
+use Rattle.slot_journal.proofs.Crashing.{represents_has}
 use Rattle.dots_server.proofs.Turning.{none_added}
 use Rattle.dots_server.specs.Taking.{stored_of, Took, BrokeOff}
 use Rattle.dots_server.specs.ServerValues.{ServerValue, IsKept}

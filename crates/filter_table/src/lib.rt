@@ -6,7 +6,8 @@
 //!
 //! Rows of mitigations are stored by slot. Beside them stand their turns in order of place, and their ranks (`prefix_ranks`)
 //! by prefix and by mitigation. So what is moved where a row comes or goes is small numbers, and the rows of a mitigation are
-//! searched for by its domain and mid. Rows of access lists are few, and each call on them passes over all.
+//! searched for by its domain and mid. Those that come at once ([`FilterTable::install_all`]) are ranked in one pass. Rows of
+//! access lists are few, and each call on them passes over all.
 //!
 //! Start reading at `specs/Table.antt` and `specs/TableRows.antt`; `specs/Rows.antt` has how the rows are stored.
 #![tactic(auto)]

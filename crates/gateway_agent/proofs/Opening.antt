@@ -13,7 +13,7 @@ use Rattle.dots_gateway.specs.Exchanges.{is_over, left_at, restored, time_of, wa
 use Rattle.dots_gateway.specs.Gateway.{GatewayValue, gateway_at}
 use Rattle.dots_gateway.specs.Routes.{routes_of}
 use Rattle.slot_journal.specs.Sizes.{slots_of}
-use Rattle.slot_journal.proofs.Crashing.{one_history}
+use Rattle.slot_journal.proofs.Crashing.{one_history, represents_has}
 use Rattle.gateway_store.specs.Crashes.{HasThe}
 use Rattle.gateway_store.specs.Exchanges.{IsStore, is_young, young_at, last_time, next_number, most_young}
 use Rattle.gateway_store.specs.Forms.{entries_of}
@@ -27,7 +27,7 @@ use Rattle.gateway_agent.specs.Keeping.{AgentValue, AreJoined, Counts, IsFor, Is
 use Rattle.gateway_agent.proofs.Joining.{counts_same, in_again, it_waits}
 use Rattle.gateway_agent.proofs.Restarting.{begun_alike}
 use Rattle.gateway_agent.specs.Turning.{HasTurn, most_of, time_in}
-use Rattle.gateway_agent.proofs.Runs.{represents_has, has_the}
+use Rattle.gateway_agent.proofs.Runs.{has_the}
 
 -- ---- the time
 

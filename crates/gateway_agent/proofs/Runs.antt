@@ -12,8 +12,8 @@ use Rattle.dots_disk.specs.Media.{Media}
 use Rattle.dots_disk.specs.Becoming.{Leaves, RestsWith, KeepsMedia, IsMoment}
 use Rattle.dots_disk.specs.Beside.{KeepsActs}
 use Rattle.slot_store.proofs.Steps.{rests_as}
-use Rattle.slot_journal.proofs.Writing.{image_has}
-use Rattle.slot_journal.specs.DiskEntries.{HasEntries, Represents, records_of}
+use Rattle.slot_journal.proofs.Crashing.{represents_has}
+use Rattle.slot_journal.specs.DiskEntries.{HasEntries, Represents}
 use Rattle.slot_store.specs.StoreValues.{JournalValue}
 use Rattle.dots_settings.specs.Settings.{SettingsValue}
 use Rattle.dots_history.specs.declared.entry.Entry.{Entry}
@@ -115,9 +115,6 @@ abbrev pub GoesOnTo : SettingsValue → ℕ → GatewayState → GatewayState �
 GoesOnTo settings most from to events media media_now Rests trace acts = RunsTo from to events trace acts × (Rests → HasSurvived settings most from to media media_now trace acts)
 
 -- ---- what lies on the disk
-
-pub represents_has : (value : JournalValue) (settings : SettingsValue) (entries : List Entry) (image : ℕ → ℕ) → Represents value settings entries image → HasEntries settings image entries
-represents_has value settings entries image is = image_has settings value.slots image (records_of entries) entries is.slots (record { same = refl; each = is.each }) (inr is.represents.journal)
 
 module _ (settings : SettingsValue) (most : ℕ) where
   -- a store that is told by its exchanges

@@ -9,7 +9,6 @@ use Rattle.dots_disk.specs.Becoming.{RestsWith}
 use Rattle.dots_settings.specs.Settings.{SettingsValue}
 use Rattle.dots_history.specs.declared.entry.Entry.{Entry}
 use Rattle.dots_gateway.specs.declared.exchange.Exchange.{Exchange}
-use Rattle.entry_records.specs.Layout.{record_bytes}
 use Rattle.slot_store.specs.Layout.{place_of, needed_of}
 use Rattle.slot_store.proofs.Steps.{rests_as}
 use Rattle.slot_store.specs.StoreValues.{JournalValue}
@@ -72,7 +71,7 @@ taken_more entries slot before e x each less is front read =
 pub used_many : (new : Option Media) (settings : SettingsValue) (j : JournalValue) (entries : List Entry) → RestsWith new (Represents j settings entries)
     → j.used ≡ length entries
 used_many None settings j entries rests = absurd rests
-used_many (Some media) settings j entries rests = rests.1.represents.used ∙ length-map entries record_bytes
+used_many (Some media) settings j entries rests = rests.1.represents.used ∙ length-map entries _
 
 pub refuses_stray : (settings : SettingsValue) (extent : ℕ) (seen : ℕ → ℕ) (new : Option Media) (j : JournalValue) (entries : List Entry) (why : JournalFault)
     → j.slots ≡ slots_of settings → HasEntries settings seen entries → RestsWith new (Represents j settings entries) → RefusesEntries j entries why

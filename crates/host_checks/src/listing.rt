@@ -15,6 +15,7 @@ use dots_lists::{Bytes, NoMemory};
 use dots_settings::Settings;
 use entry_records::{EntryFault, entry_of};
 use file_checks::Checked;
+use record_formats::Format;
 use slot_journal::{EntryList, Journal, JournalFault, slots};
 use slot_store::{SLOT, SlotStore, read_slot};
 use std::alloc::Global;
@@ -96,7 +97,7 @@ fn read_slots<D: Disk>(
     let mut entries = EntryList::new(alloc);
     for slot in 0..store.used() {
         let place = store.place(slot);
-        match read_entry(alloc, disk, place)? {
+        match read_entry(alloc, disk, store.format(), place)? {
             Some(entry) => entries.push(entry)?,
             None => return Ok(entries),
         }
@@ -104,8 +105,13 @@ fn read_slots<D: Disk>(
     Ok(entries)
 }
 
-/// The entry whose record stands in the slot at the place, where one does.
-fn read_entry<D: Disk>(alloc: Global, disk: &mut D, at: u64) -> Result<Option<Entry>, NoMemory>
+/// The entry whose record of this format stands in the slot at the place, where one does.
+fn read_entry<D: Disk>(
+    alloc: Global,
+    disk: &mut D,
+    format: Format,
+    at: u64,
+) -> Result<Option<Entry>, NoMemory>
     requires { at + 8192 ≤ D.extent disk.old }
     ensures extent { D.extent disk.new ≡ D.extent disk.old }
 {
@@ -113,7 +119,7 @@ fn read_entry<D: Disk>(alloc: Global, disk: &mut D, at: u64) -> Result<Option<En
     let Ok(Some(len)) = read_slot(disk, at, &mut room) else {
         return Ok(None);
     };
-    match entry_of(alloc, &room[3..3 + len]) {
+    match entry_of(alloc, &room[3..3 + len], format) {
         Ok(entry) => Ok(Some(entry)),
         Err(EntryFault::NotEntry { .. }) => Ok(None),
         Err(EntryFault::NoMemory) => Err(NoMemory),

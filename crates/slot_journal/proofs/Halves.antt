@@ -1,10 +1,11 @@
 -- The slots of a half that was read.
-use Rattle.std.proofs.Common.{◌≡◌, ◌≢◌, ◌⊎◌, inl, inr, ℕ, zero, suc, ◌+◌, ◌*◌, ◌%◌, ◌^◌, ◌<◌, ◌≤◌, List, [], ◌∷◌, ◌++◌, length, length-drop, map, take, drop, get_or, Option, Some, None, refl, sym, ap, subst, ◌∙◌, arith}
-use Rattle.std.specs.Prelude.{true, false, ◌==◌}
+use Rattle.std.proofs.Common.{◌≡◌, ◌≢◌, inl, inr, ℕ, zero, suc, ◌+◌, ◌*◌, ◌%◌, ◌^◌, ◌<◌, ◌≤◌, List, [], ◌∷◌, ◌++◌, length, length-drop, take, drop, get_or, Some, None, refl, sym, ap, subst, ◌∙◌, arith}
+use Rattle.std.specs.Prelude.{true, false}
 use Rattle.std.specs.List.{AllByRecursion}
 use Rattle.std.proofs.lemmas.Bool.{cases_eq, eqb-true, eqb-false}
 use Rattle.std.proofs.lemmas.List.{length-map, length-append, length-take}
 use Rattle.dots_disk.specs.Media.{bytes_at}
+use Rattle.record_formats.specs.declared.format.Format.{Format}
 use Rattle.dots_history.specs.declared.entry.Entry.{Entry}
 use Rattle.entry_records.specs.Layout.{record_bytes}
 use Rattle.entry_records.specs.Records.{IsRecord}
@@ -17,7 +18,7 @@ use Rattle.slot_store.specs.StoreValues.{IsFound}
 use Rattle.slot_journal.specs.declared.fault.JournalFault.{JournalFault}
 use Rattle.slot_journal.specs.declared.fault.JournalFault.TheVariants as fault
 use Rattle.slot_journal.specs.DiskEntries.{HasRecord, records_of}
-use Rattle.slot_journal.specs.Refused.{IsNoRecord, RefusesSlot, RefusesRest, RefusesHalf, HasFirst, IsStray, AreClosed, IsBadSlot, IsGap}
+use Rattle.slot_journal.specs.Refused.{IsNoRecord, RefusesSlot, RefusesRest, RefusesHalf, HasFirst, IsStray, AreClosed}
 use Rattle.slot_journal.proofs.Listed.{records_push}
 
 -- ---- one slot
@@ -37,50 +38,50 @@ slot_found seen at room len found gate size =
 pub one_slot : (seen : ℕ → ℕ) (at : ℕ) (first second : List ℕ) → IsSlot seen at first → IsSlot seen at second → first ≡ second
 one_slot seen at first second one other = sym one.bytes ∙ ap (bytes_at seen (at + 3)) (sym one.size ∙ other.size) ∙ other.bytes
 
-pub stray_bytes : (seen : ℕ → ℕ) (at : ℕ) (room : List ℕ) (len : ℕ) → IsFound seen at room (Some len) → length (take len (drop 3 room)) ≡ len → ((entry : Entry) → ¬ (IsRecord (take len (drop 3 room)) entry)) → IsStray seen at
-stray_bytes seen at room len found size none filled entry is record_is =
-    none entry (subst (λ filled. IsRecord filled entry) (one_slot seen at filled (take len (drop 3 room)) is (slot_found seen at room len found is.gate size)) record_is)
+pub stray_bytes : (format : Format) (seen : ℕ → ℕ) (at : ℕ) (room : List ℕ) (len : ℕ) → IsFound seen at room (Some len) → length (take len (drop 3 room)) ≡ len → ((entry : Entry) → ¬ (IsRecord format (take len (drop 3 room)) entry)) → IsStray format seen at
+stray_bytes format seen at room len found size none filled entry is record_is =
+    none entry (subst (λ filled. IsRecord format filled entry) (one_slot seen at filled (take len (drop 3 room)) is (slot_found seen at room len found is.gate size)) record_is)
 
-pub stray_long : (seen : ℕ → ℕ) (at : ℕ) (room : List ℕ) → IsFound seen at room None → IsStray seen at
-stray_long seen at room found filled entry is record_is =
+pub stray_long : (format : Format) (seen : ℕ → ℕ) (at : ℕ) (room : List ℕ) → IsFound seen at room None → IsStray format seen at
+stray_long format seen at room found filled entry is record_is =
     let long : 8189 < 256 * seen (at + 1) + seen (at + 2) = found in
     let fits = is.fits in
     absurd (omega (arith, long, is.size, fits))
 
-pub slot_refused : (seen : ℕ → ℕ) (at : ℕ) (room : List ℕ) (len : ℕ) (why : JournalFault) → IsFound seen at room (Some len) → length (take len (drop 3 room)) ≡ len → IsNoRecord (take len (drop 3 room)) at why → RefusesSlot seen at why
-slot_refused seen at room len (fault.NotOurs place) found size none = (none.0, stray_bytes seen at room len found size none.1)
-slot_refused seen at room len fault.NoMemory found size none = tt
-slot_refused seen at room len fault.DiskFault found size none = tt
-slot_refused seen at room len (fault.TooSmall needed bytes) found size none = absurd none
-slot_refused seen at room len (fault.SettingsChanged stored given) found size none = absurd none
+pub slot_refused : (format : Format) (seen : ℕ → ℕ) (at : ℕ) (room : List ℕ) (len : ℕ) (why : JournalFault) → IsFound seen at room (Some len) → length (take len (drop 3 room)) ≡ len → IsNoRecord format (take len (drop 3 room)) at why → RefusesSlot format seen at why
+slot_refused format seen at room len (fault.NotOurs place) found size none = (none.0, stray_bytes format seen at room len found size none.1)
+slot_refused format seen at room len fault.NoMemory found size none = tt
+slot_refused format seen at room len fault.DiskFault found size none = tt
+slot_refused format seen at room len (fault.TooSmall needed bytes) found size none = absurd none
+slot_refused format seen at room len (fault.SettingsChanged stored given) found size none = absurd none
 
 size_of : (room : List ℕ) (len : ℕ) → length room ≡ 8192 → len ≤ 8189 → length (take len (drop 3 room)) ≡ len
 size_of room len whole fits = let taken = length-take len (drop 3 room) in let dropped = length-drop 3 room in omega (arith, whole, fits, taken, dropped)
 
 -- the entry that was read of the bytes stands in the slot
-pub entry_found : (seen : ℕ → ℕ) (at : ℕ) (room : List ℕ) (len : ℕ) (bytes : List ℕ) (entry : Entry) → IsFound seen at room (Some len) → seen at ≡ 165 → length room ≡ 8192 → take len (drop 3 room) ≡ bytes → bytes ≡ record_bytes entry → IsSlot seen at (record_bytes entry)
-entry_found seen at room len bytes entry found gate whole same is = subst (IsSlot seen at) (same ∙ is) (slot_found seen at room len found gate (size_of room len whole found.1))
+pub entry_found : (format : Format) (seen : ℕ → ℕ) (at : ℕ) (room : List ℕ) (len : ℕ) (bytes : List ℕ) (entry : Entry) → IsFound seen at room (Some len) → seen at ≡ 165 → length room ≡ 8192 → take len (drop 3 room) ≡ bytes → bytes ≡ record_bytes format entry → IsSlot seen at (record_bytes format entry)
+entry_found format seen at room len bytes entry found gate whole same is = subst (IsSlot seen at) (same ∙ is) (slot_found seen at room len found gate (size_of room len whole found.1))
 
-pub read_refused : (seen : ℕ → ℕ) (at : ℕ) (room : List ℕ) (len : ℕ) (bytes : List ℕ) (why : JournalFault) → IsFound seen at room (Some len) → length room ≡ 8192 → take len (drop 3 room) ≡ bytes → IsNoRecord bytes at why → RefusesSlot seen at why
-read_refused seen at room len bytes why found whole same none = slot_refused seen at room len why found (size_of room len whole found.1) (subst (λ bytes. IsNoRecord bytes at why) (sym same) none)
+pub read_refused : (format : Format) (seen : ℕ → ℕ) (at : ℕ) (room : List ℕ) (len : ℕ) (bytes : List ℕ) (why : JournalFault) → IsFound seen at room (Some len) → length room ≡ 8192 → take len (drop 3 room) ≡ bytes → IsNoRecord format bytes at why → RefusesSlot format seen at why
+read_refused format seen at room len bytes why found whole same none = slot_refused format seen at room len why found (size_of room len whole found.1) (subst (λ bytes. IsNoRecord format bytes at why) (sym same) none)
 
 -- ---- the entries, one after the other
 
-pub has_none : (slots half : ℕ) (seen : ℕ → ℕ) → HasFirst slots half seen []
-has_none slots half seen slot under = absurd (omega (arith, under))
+pub has_none : (slots half : ℕ) (format : Format) (seen : ℕ → ℕ) → HasFirst slots half format seen []
+has_none slots half format seen slot under = absurd (omega (arith, under))
 
-pub has_one_more : (slots half : ℕ) (seen : ℕ → ℕ) (entries : List Entry) (entry : Entry) → HasFirst slots half seen entries → IsSlot seen (place_of slots half (length entries)) (record_bytes entry)
-    → HasFirst slots half seen (entries ++ entry ∷ [])
-has_one_more slots half seen entries entry first next slot under = elim (cases_eq slot (length entries)) [
+pub has_one_more : (slots half : ℕ) (format : Format) (seen : ℕ → ℕ) (entries : List Entry) (entry : Entry) → HasFirst slots half format seen entries → IsSlot seen (place_of slots half (length entries)) (record_bytes format entry)
+    → HasFirst slots half format seen (entries ++ entry ∷ [])
+has_one_more slots half format seen entries entry first next slot under = elim (cases_eq slot (length entries)) [
   | inl same ↦
-      let count : length (records_of entries) ≡ slot = length-map entries record_bytes ∙ sym same in
-      let last : get_or (records_of (entries ++ entry ∷ [])) slot [] ≡ record_bytes entry = ap (λ records. get_or records slot []) (sym (records_push entries entry (record_bytes entry) refl)) ∙ last_of (records_of entries) (record_bytes entry) slot count in
-      subst (IsSlot seen (place_of slots half slot)) (sym last) (subst (λ slot. IsSlot seen (place_of slots half slot) (record_bytes entry)) (sym same) next)
+      let count : length (records_of format entries) ≡ slot = length-map entries (record_bytes format) ∙ sym same in
+      let last : get_or (records_of format (entries ++ entry ∷ [])) slot [] ≡ record_bytes format entry = ap (λ records. get_or records slot []) (sym (records_push format entries entry (record_bytes format entry) refl)) ∙ last_of (records_of format entries) (record_bytes format entry) slot count in
+      subst (IsSlot seen (place_of slots half slot)) (sym last) (subst (λ slot. IsSlot seen (place_of slots half slot) (record_bytes format entry)) (sym same) next)
   | inr other ↦
       let size : length (entries ++ entry ∷ []) ≡ length entries + 1 = length-append entries (entry ∷ []) in
       let low : slot < length entries = omega (arith, under, size, other) in
-      let within : slot < length (records_of entries) = omega (arith, low, length-map entries record_bytes) in
-      let earlier : get_or (records_of (entries ++ entry ∷ [])) slot [] ≡ get_or (records_of entries) slot [] = ap (λ records. get_or records slot []) (sym (records_push entries entry (record_bytes entry) refl)) ∙ front_of (records_of entries) (record_bytes entry) slot within in
+      let within : slot < length (records_of format entries) = omega (arith, low, length-map entries (record_bytes format)) in
+      let earlier : get_or (records_of format (entries ++ entry ∷ [])) slot [] ≡ get_or (records_of format entries) slot [] = ap (λ records. get_or records slot []) (sym (records_push format entries entry (record_bytes format entry) refl)) ∙ front_of (records_of format entries) (record_bytes format entry) slot within in
       subst (IsSlot seen (place_of slots half slot)) (sym earlier) (first slot low)
 ]
   where
@@ -96,9 +97,9 @@ has_one_more slots half seen entries entry first next slot under = elim (cases_e
     front_of (x ∷ records) bytes (suc slot) under = front_of records bytes slot (omega (arith, under))
 
 -- a slot that is refused is one of the half
-pub bad_slot : (slots half used : ℕ) (seen : ℕ → ℕ) (entries : List Entry) (at : ℕ) (why : JournalFault) → IsCount slots half seen used → length entries < used → at ≡ place_of slots half (length entries) → HasFirst slots half seen entries → AllByRecursion HasRecord entries
-    → RefusesSlot seen at why → RefusesHalf slots half seen why
-bad_slot slots half used seen entries at (fault.NotOurs place) count under there first each refuses =
+pub bad_slot : (slots half used : ℕ) (format : Format) (seen : ℕ → ℕ) (entries : List Entry) (at : ℕ) (why : JournalFault) → IsCount slots half seen used → length entries < used → at ≡ place_of slots half (length entries) → HasFirst slots half format seen entries → AllByRecursion HasRecord entries
+    → RefusesSlot format seen at why → RefusesHalf slots half format seen why
+bad_slot slots half used format seen entries at (fault.NotOurs place) count under there first each refuses =
     let fits = count.fits in
     inl (record {
       before = entries;
@@ -107,12 +108,12 @@ bad_slot slots half used seen entries at (fault.NotOurs place) count under there
       within = omega (arith, under, fits);
       there = refuses.0 ∙ there;
       gate = ap seen (refuses.0 ∙ there) ∙ count.gates (length entries) under;
-      stray = subst (IsStray seen) (sym refuses.0) refuses.1;
+      stray = subst (IsStray format seen) (sym refuses.0) refuses.1;
     })
-bad_slot slots half used seen entries at fault.DiskFault count under there first each refuses = tt
-bad_slot slots half used seen entries at fault.NoMemory count under there first each refuses = tt
-bad_slot slots half used seen entries at (fault.TooSmall needed bytes) count under there first each refuses = absurd refuses
-bad_slot slots half used seen entries at (fault.SettingsChanged stored given) count under there first each refuses = absurd refuses
+bad_slot slots half used format seen entries at fault.DiskFault count under there first each refuses = tt
+bad_slot slots half used format seen entries at fault.NoMemory count under there first each refuses = tt
+bad_slot slots half used format seen entries at (fault.TooSmall needed bytes) count under there first each refuses = absurd refuses
+bad_slot slots half used format seen entries at (fault.SettingsChanged stored given) count under there first each refuses = absurd refuses
 
 -- ---- what stands behind the entries
 
@@ -138,9 +139,9 @@ first_open slots half seen used slot at is there = (
   all_closed slots half seen used slot is.before,
 )
 
-pub whole_half : (slots half used : ℕ) (seen : ℕ → ℕ) (entries : List Entry) → IsCount slots half seen used → length entries ≡ used → HasFirst slots half seen entries → AreClosed slots half seen used slots → IsHalf slots half seen (records_of entries)
-whole_half slots half used seen entries count size first closed =
-    let records = length-map entries record_bytes in
+pub whole_half : (slots half used : ℕ) (format : Format) (seen : ℕ → ℕ) (entries : List Entry) → IsCount slots half seen used → length entries ≡ used → HasFirst slots half format seen entries → AreClosed slots half seen used slots → IsHalf slots half seen (records_of format entries)
+whole_half slots half used format seen entries count size first closed =
+    let records = length-map entries (record_bytes format) in
     let fits = count.fits in
     record {
       fits = omega (arith, records, size, fits);
@@ -148,8 +149,8 @@ whole_half slots half used seen entries count size first closed =
       closed = λ slot low high. closed slot (omega (arith, low, records, size)) high;
     }
 
-pub rest_refused : (slots half used : ℕ) (seen : ℕ → ℕ) (entries : List Entry) (why : JournalFault) → IsCount slots half seen used → length entries ≡ used → HasFirst slots half seen entries → AllByRecursion HasRecord entries → RefusesRest slots half seen used why → RefusesHalf slots half seen why
-rest_refused slots half used seen entries (fault.NotOurs at) count size first each refuses = elim (cases_eq refuses.0 used) [
+pub rest_refused : (slots half used : ℕ) (format : Format) (seen : ℕ → ℕ) (entries : List Entry) (why : JournalFault) → IsCount slots half seen used → length entries ≡ used → HasFirst slots half format seen entries → AllByRecursion HasRecord entries → RefusesRest slots half seen used why → RefusesHalf slots half format seen why
+rest_refused slots half used format seen entries (fault.NotOurs at) count size first each refuses = elim (cases_eq refuses.0 used) [
   | inl same ↦
       let high = refuses.2 in
       let low : used < slots = omega (arith, same, high) in
@@ -168,10 +169,10 @@ rest_refused slots half used seen entries (fault.NotOurs at) count size first ea
         closed = λ slot from to. refuses.5 slot (omega (arith, size, from)) to;
       })
 ]
-rest_refused slots half used seen entries fault.DiskFault count size first each refuses = tt
-rest_refused slots half used seen entries fault.NoMemory count size first each refuses = absurd refuses
-rest_refused slots half used seen entries (fault.TooSmall needed bytes) count size first each refuses = absurd refuses
-rest_refused slots half used seen entries (fault.SettingsChanged stored given) count size first each refuses = absurd refuses
+rest_refused slots half used format seen entries fault.DiskFault count size first each refuses = tt
+rest_refused slots half used format seen entries fault.NoMemory count size first each refuses = absurd refuses
+rest_refused slots half used format seen entries (fault.TooSmall needed bytes) count size first each refuses = absurd refuses
+rest_refused slots half used format seen entries (fault.SettingsChanged stored given) count size first each refuses = absurd refuses
 
 -- ---- places on the disk
 

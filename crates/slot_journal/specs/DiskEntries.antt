@@ -1,6 +1,7 @@
 -- The entries that a disk holds, one record for each, and the journal that represents them.
-use Rattle.std.specs.Prelude.{◌≡◌, ℕ, ◌⊎◌, List, [], map, slice_get, option_to_list, IsTrue}
+use Rattle.std.specs.Prelude.{◌≡◌, ℕ, ◌⊎◌, List, map, slice_get, option_to_list, IsTrue}
 use Rattle.std.specs.List.{AllByRecursion, flat_map}
+use Rattle.record_formats.specs.declared.format.Format.{Format}
 use Rattle.dots_settings.specs.Settings.{SettingsValue}
 use Rattle.dots_history.specs.declared.entry.Entry.{Entry}
 use Rattle.dots_history.specs.Bounds.{within_bounds}
@@ -15,12 +16,15 @@ pub record HasRecord (entry : Entry) : Type 0 where
   pub typed : IsEntry entry
   pub within : IsTrue (within_bounds entry)
 
-abbrev pub records_of : List Entry → List (List ℕ)
-records_of entries = map record_bytes entries
+-- the records of the entries in this format
+abbrev pub records_of : Format → List Entry → List (List ℕ)
+records_of format entries = map (record_bytes format) entries
 
--- An image of a disk holds these entries, under these settings: without a header each gate is zero and there is none; else they are those of the records of the half in use.
+-- An image of a disk holds these entries, under these settings: without a header each gate is zero and there is none; else they are those of the
+-- records of the half in use, in the format that the header says of it.
 pub record HasEntries (settings : SettingsValue) (image : ℕ → ℕ) (entries : List Entry) : Type 0 where
-  pub records : HasRecords (slots_of settings) settings.digest image (records_of entries)
+  pub format : Format
+  pub records : HasRecords (slots_of settings) settings.digest format image (records_of format entries)
   pub each : AllByRecursion HasRecord entries
 
 -- one list of entries, or another
@@ -30,7 +34,7 @@ HasEither settings first second image = HasEntries settings image first ⊎ HasE
 -- the journal represents these entries on this disk
 pub record Represents (journal : JournalValue) (settings : SettingsValue) (entries : List Entry) (image : ℕ → ℕ) : Type 0 where
   pub slots : journal.slots ≡ slots_of settings
-  pub represents : RepresentsRecords journal settings.digest (records_of entries) image
+  pub represents : RepresentsRecords journal settings.digest (records_of journal.format entries) image
   pub each : AllByRecursion HasRecord entries
 
 -- the entries of these slots, in the order of the list

@@ -1,5 +1,5 @@
 -- What a crash leaves of a disk in the middle of calls.
-use Rattle.std.specs.Prelude.{◌≡◌, ℕ, List, ◌∷◌, ◌++◌, Option, Some, None}
+use Rattle.std.specs.Prelude.{◌≡◌, ℕ, List, ◌∷◌, ◌++◌, Option, Some}
 use Rattle.dots_disk.specs.Media.{Medium, Media, IsImage, all_media}
 
 -- A crash leaves this image at the moment before the first of the calls, or at one after it.

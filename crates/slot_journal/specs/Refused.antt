@@ -2,57 +2,58 @@
 use Rattle.std.specs.Prelude.{◌≡◌, ◌≢◌, ℕ, ◌%◌, ◌<◌, ◌≤◌, ◌⊎◌, List, [], length, slice_index_or, Result, Err, ⊤}
 use Rattle.std.specs.List.{AllByRecursion}
 use Rattle.dots_host.specs.Causes.{Rose}
+use Rattle.record_formats.specs.declared.format.Format.{Format}
 use Rattle.dots_settings.specs.Settings.{SettingsValue}
 use Rattle.dots_history.specs.declared.entry.Entry.{Entry}
 use Rattle.entry_records.specs.Records.{IsRecord}
 use Rattle.slot_store.specs.declared.fault.OpenFault.{OpenFault}
 use Rattle.slot_store.specs.declared.fault.OpenFault.TheVariants as opening
-use Rattle.slot_store.specs.Layout.{place_of, needed_of, IsHeader, IsSlot}
+use Rattle.slot_store.specs.Layout.{place_of, needed_of, IsHeader, HasFormat, IsSlot}
 use Rattle.slot_store.specs.Refusing.{RefusesDisk}
 use Rattle.slot_journal.specs.declared.fault.JournalFault.{JournalFault}
 use Rattle.slot_journal.specs.declared.fault.JournalFault.TheVariants as fault
 use Rattle.slot_journal.specs.Sizes.{slots_of}
 use Rattle.slot_journal.specs.DiskEntries.{HasRecord, records_of}
 
--- what stands in the slot is the record of no entry
-abbrev pub IsStray : (ℕ → ℕ) → ℕ → Type 0
-IsStray seen at = (filled : List ℕ) (entry : Entry) → IsSlot seen at filled → ¬ (IsRecord filled entry)
+-- what stands in the slot is the record of no entry in this format
+abbrev pub IsStray : Format → (ℕ → ℕ) → ℕ → Type 0
+IsStray format seen at = (filled : List ℕ) (entry : Entry) → IsSlot seen at filled → ¬ (IsRecord format filled entry)
 
 -- why no entry is read of bytes that stand in the slot at the place
-abbrev pub IsNoRecord : List ℕ → ℕ → JournalFault → Type 0
-IsNoRecord bytes at (fault.NotOurs place) = (place ≡ at) × ((entry : Entry) → ¬ (IsRecord bytes entry))
-IsNoRecord bytes at fault.NoMemory = ⊤
-IsNoRecord bytes at _ = ⊥
+abbrev pub IsNoRecord : Format → List ℕ → ℕ → JournalFault → Type 0
+IsNoRecord format bytes at (fault.NotOurs place) = (place ≡ at) × ((entry : Entry) → ¬ (IsRecord format bytes entry))
+IsNoRecord format bytes at fault.NoMemory = ⊤
+IsNoRecord format bytes at _ = ⊥
 
 -- why no entry is read of the slot at the place
-abbrev pub RefusesSlot : (ℕ → ℕ) → ℕ → JournalFault → Type 0
-RefusesSlot seen at (fault.NotOurs place) = (place ≡ at) × IsStray seen at
-RefusesSlot seen at fault.DiskFault = ⊤
-RefusesSlot seen at fault.NoMemory = ⊤
-RefusesSlot seen at _ = ⊥
+abbrev pub RefusesSlot : Format → (ℕ → ℕ) → ℕ → JournalFault → Type 0
+RefusesSlot format seen at (fault.NotOurs place) = (place ≡ at) × IsStray format seen at
+RefusesSlot format seen at fault.DiskFault = ⊤
+RefusesSlot format seen at fault.NoMemory = ⊤
+RefusesSlot format seen at _ = ⊥
 
--- the first slots of a half hold the records of these entries
-abbrev pub HasFirst : ℕ → ℕ → (ℕ → ℕ) → List Entry → Type 0
-HasFirst slots half seen entries = (slot : ℕ) → slot < length entries → IsSlot seen (place_of slots half slot) (slice_index_or (records_of entries) slot [])
+-- the first slots of a half hold the records of these entries, in this format
+abbrev pub HasFirst : ℕ → ℕ → Format → (ℕ → ℕ) → List Entry → Type 0
+HasFirst slots half format seen entries = (slot : ℕ) → slot < length entries → IsSlot seen (place_of slots half slot) (slice_index_or (records_of format entries) slot [])
 
 -- the gates of these slots are not open, from the one up to the other
 abbrev pub AreClosed : ℕ → ℕ → (ℕ → ℕ) → ℕ → ℕ → Type 0
 AreClosed slots half seen from to = (slot : ℕ) → from ≤ slot → slot < to → seen (place_of slots half slot) ≢ 165
 
--- the first slot of a half whose gate is open and whose record is that of no entry
-pub record IsBadSlot (slots half : ℕ) (seen : ℕ → ℕ) (at : ℕ) : Type 0 where
+-- the first slot of a half whose gate is open and whose record, in the format of the half, is that of no entry
+pub record IsBadSlot (slots half : ℕ) (format : Format) (seen : ℕ → ℕ) (at : ℕ) : Type 0 where
   pub before : List Entry
-  pub front : HasFirst slots half seen before
+  pub front : HasFirst slots half format seen before
   pub each : AllByRecursion HasRecord before
   pub within : length before < slots
   pub there : at ≡ place_of slots half (length before)
   pub gate : seen at ≡ 165
-  pub stray : IsStray seen at
+  pub stray : IsStray format seen at
 
 -- the first slot with an open gate behind one whose gate isn't open
-pub record IsGap (slots half : ℕ) (seen : ℕ → ℕ) (at : ℕ) : Type 0 where
+pub record IsGap (slots half : ℕ) (format : Format) (seen : ℕ → ℕ) (at : ℕ) : Type 0 where
   pub before : List Entry
-  pub front : HasFirst slots half seen before
+  pub front : HasFirst slots half format seen before
   pub each : AllByRecursion HasRecord before
   pub slot : ℕ
   pub behind : length before < slot
@@ -73,18 +74,19 @@ IsNoWant fault.NoMemory = ⊥
 IsNoWant _ = ⊤
 
 -- why a half is refused
-abbrev pub RefusesHalf : ℕ → ℕ → (ℕ → ℕ) → JournalFault → Type 0
-RefusesHalf slots half seen (fault.NotOurs at) = IsBadSlot slots half seen at ⊎ IsGap slots half seen at
-RefusesHalf slots half seen fault.DiskFault = ⊤
-RefusesHalf slots half seen fault.NoMemory = ⊤
-RefusesHalf slots half seen _ = ⊥
+abbrev pub RefusesHalf : ℕ → ℕ → Format → (ℕ → ℕ) → JournalFault → Type 0
+RefusesHalf slots half format seen (fault.NotOurs at) = IsBadSlot slots half format seen at ⊎ IsGap slots half format seen at
+RefusesHalf slots half format seen fault.DiskFault = ⊤
+RefusesHalf slots half format seen fault.NoMemory = ⊤
+RefusesHalf slots half format seen _ = ⊥
 
 -- Why a disk isn't recovered, by its size and what a read gives: it is too small, its header or, where it has none, a gate isn't this format's, it was written under other settings, or a slot of the half in use is refused. Memory and calls of the disk aside.
 abbrev pub Refuses : SettingsValue → ℕ → (ℕ → ℕ) → JournalFault → Type 0
 Refuses settings extent seen (fault.TooSmall needed found) = (needed ≡ needed_of (slots_of settings)) × (found ≡ extent) × (found < needed)
 Refuses settings extent seen (fault.NotOurs at) =
     RefusesDisk (slots_of settings) settings.digest seen (opening.NotOurs at)
-    ⊎ (IsHeader (slots_of settings) settings.digest seen × (IsBadSlot (slots_of settings) (seen 48 % 2) seen at ⊎ IsGap (slots_of settings) (seen 48 % 2) seen at))
+    ⊎ (IsHeader (slots_of settings) settings.digest seen
+    × ((format : Format) × HasFormat format seen × (IsBadSlot (slots_of settings) (seen 48 % 2) format seen at ⊎ IsGap (slots_of settings) (seen 48 % 2) format seen at)))
 Refuses settings extent seen (fault.SettingsChanged stored given) = RefusesDisk (slots_of settings) settings.digest seen (opening.SettingsChanged stored) × (given ≡ settings.digest)
 Refuses settings extent seen fault.DiskFault = ⊤
 Refuses settings extent seen fault.NoMemory = ⊤

@@ -5,7 +5,7 @@ ghost use Rattle.dots_disk.specs.Becoming.{Leaves, RestsWith};
 ghost use Rattle.dots_settings.specs.Settings.{SettingsValue};
 ghost use Rattle.dots_history.specs.declared.entry.Entry.{Entry};
 ghost use Rattle.dots_history.specs.Bounds.{within_bounds};
-ghost use Rattle.slot_store.specs.Layout.{place_of, needed_of};
+ghost use Rattle.slot_store.specs.Layout.{place_of, needed_of, IsJournal, IsZeroFrom};
 ghost use Rattle.slot_store.specs.Opening.{Is};
 ghost use Rattle.slot_store.specs.Gates.{Sees};
 ghost use Rattle.slot_store.specs.Copying.{AreSlots, other_selector};
@@ -17,11 +17,13 @@ use crate::entries::EntryList;
 use crate::fault::JournalFault;
 use crate::opening::open_store;
 use crate::reading::read_half;
+use crate::size::slots;
 use dots_disk::Disk;
 use dots_history::Entry;
 use dots_settings::Settings;
 use entry_records::RecordRoom;
-use slot_store::{DiskFault, SlotStore};
+use record_formats::Format;
+use slot_store::{DiskFault, SlotStore, format_one};
 use std::alloc::Global;
 use std::marker::Model;
 
@@ -62,6 +64,10 @@ impl Journal {
         ensures recovered { IfOk result (λ found. (seen : ℕ → ℕ) → Sees (D.media disk.old) seen →
             HasEntries settings.now seen found.1 × RestsWith (D.media disk.new) (Represents found.0 settings.now found.1)) }
         ensures each { IfOk result (λ found. AllByRecursion HasRecord found.1) }
+
+        // As many slots are in use as there are entries, and where a header stood nothing was written.
+        ensures count { IfOk result (λ found. found.0.used ≡ length found.1) }
+        ensures kept { OnOk result ((seen : ℕ → ℕ) → RestsWith (D.media disk.old) (Is seen) → seen 0 ≡ 165 → RestsWith (D.media disk.new) (Is seen)) }
         ensures size { IfOk result (λ found. (found.0.slots ≡ slots_of settings.now) × (needed_of (slots_of settings.now) ≤ D.extent disk.new)) }
         ensures refused { IfErr result (λ fault. (seen : ℕ → ℕ) → Sees (D.media disk.old) seen →
             Refuses settings.now (D.extent disk.old) seen fault) }
@@ -80,6 +86,28 @@ impl Journal {
         let store = open_store(alloc, disk, settings)?;
         let entries = read_half(alloc, disk, &store)?;
         Ok((Journal { store, room }, entries))
+    }
+
+    /// Formats a disk of zeros in the first format, with no entry. It exists so that journals of that format can be made and tried; a journal is
+    /// formatted in the second by [`Journal::recover`]. It makes two writes and two syncs.
+    ///
+    /// # Errors
+    ///
+    /// `DiskFault` where the disk's count of faults rose.
+    pub fn format_one<D: Disk>(disk: &mut D, settings: &Settings) -> Result<(), DiskFault>
+        requires { needed_of (slots_of settings.now) ≤ D.extent disk.old }
+
+        // At each moment each image holds no entry; in the end it has a header of the first format, and zeros behind it.
+        ensures moments { RestsWith (D.media disk.old) (IsZeroFrom 0) →
+            Leaves (D.media disk.old) (D.media disk.new) (λ image. HasEntries settings.now image []) }
+        ensures formatted { OnOk result (RestsWith (D.media disk.old) (IsZeroFrom 0) →
+            RestsWith (D.media disk.new) (λ image. IsJournal (slots_of settings.now) settings.now.digest Format.One image [] × IsZeroFrom 64 image)) }
+
+        ensures extent { D.extent disk.new ≡ D.extent disk.old }
+        ensures cause { HasCause (D.faults disk.old) (D.faults disk.new) result }
+        ensures beside { D.beside disk.old disk.new }
+    {
+        format_one(disk, slots(settings), &settings.digest())
     }
 
     /// How many slots of the half in use hold an entry.
@@ -130,12 +158,13 @@ impl Journal {
         ensures cause { HasCause (D.faults disk.old) (D.faults disk.new) result }
         ensures beside { D.beside disk.old disk.new }
     {
-        self.room.put(entry);
+        self.room.put(entry, self.store.format());
         let slot = self.store.append(disk, self.room.record())?;
         Ok(slot)
     }
 
-    /// Keeps the entries of these slots alone, in the order of the list, in the other half. It takes no memory.
+    /// Keeps the entries of these slots alone, in the order of the list, in the other half, whose records are of the second format. It takes
+    /// no memory.
     ///
     /// # Errors
     ///
@@ -145,7 +174,7 @@ impl Journal {
         requires keep { AreSlots self.old.used keep.now }
         requires few { length keep.now ≤ self.old.slots }
         ensures next { OnOk result (self.new ≡ record self.old
-            { selector = other_selector self.old.selector; used = length keep.now }) }
+            { selector = other_selector self.old.selector; used = length keep.now; format = Format.Two }) }
         ensures same { OnErr result (self.new ≡ self.old) }
 
         // At each moment each image holds the entries, or the kept ones; in the end the kept ones alone.

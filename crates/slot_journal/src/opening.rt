@@ -13,6 +13,7 @@ use crate::fault::JournalFault;
 use crate::size::slots;
 use dots_disk::Disk;
 use dots_settings::Settings;
+use record_formats::Format;
 use slot_store::{OpenFault, SlotStore};
 use std::alloc::Global;
 
@@ -38,9 +39,9 @@ pub fn open_store<D: Disk>(
     disk: &mut D,
     settings: &Settings,
 ) -> Result<SlotStore, JournalFault>
-    ensures moments { (seen : ℕ → ℕ) (records : List (List ℕ)) → RestsWith (D.media disk.old) (Is seen) →
-        HasRecords (slots_of settings.now) settings.now.digest seen records →
-        Leaves (D.media disk.old) (D.media disk.new) (λ image. HasRecords (slots_of settings.now) settings.now.digest image records) }
+    ensures moments { (seen : ℕ → ℕ) (format : Format) (records : List (List ℕ)) → RestsWith (D.media disk.old) (Is seen) →
+        HasRecords (slots_of settings.now) settings.now.digest format seen records →
+        Leaves (D.media disk.old) (D.media disk.new) (λ image. HasRecords (slots_of settings.now) settings.now.digest format image records) }
     ensures known { IfOk result (λ store. (seen : ℕ → ℕ) → Sees (D.media disk.old) seen →
         RestsWith (D.media disk.new) (IsKnown store settings.now.digest seen)) }
     ensures size { IfOk result (λ store. (store.slots ≡ slots_of settings.now) × (needed_of (slots_of settings.now) ≤ D.extent disk.new)) }

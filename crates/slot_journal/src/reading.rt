@@ -16,27 +16,33 @@ use dots_disk::Disk;
 use dots_history::Entry;
 use dots_host::Failed;
 use entry_records::{EntryFault, entry_of};
+use record_formats::Format;
 use slot_store::{SLOT, SlotStore, Wanted, find_gate, read_slot};
 use std::alloc::Global;
 
-/// The entry whose record the bytes are, which were read of the slot at the place.
-fn entry_in(alloc: Global, bytes: &[u8], at: u64) -> Result<Entry, JournalFault>
-    ensures entry { IfOk result (λ entry. HasRecord entry × (bytes.now ≡ record_bytes entry)) }
-    ensures refused { IfErr result (λ fault. IsNoRecord bytes.now at fault) }
+/// The entry whose record in this format the bytes are, which were read of the slot at the place.
+fn entry_in(alloc: Global, bytes: &[u8], format: Format, at: u64) -> Result<Entry, JournalFault>
+    ensures entry { IfOk result (λ entry. HasRecord entry × (bytes.now ≡ record_bytes format entry)) }
+    ensures refused { IfErr result (λ fault. IsNoRecord format bytes.now at fault) }
 {
-    match entry_of(alloc, bytes) {
+    match entry_of(alloc, bytes, format) {
         Ok(entry) => return Ok(entry),
         Err(EntryFault::NotEntry { .. }) => return Err(JournalFault::NotOurs { at }),
         Err(EntryFault::NoMemory) => return Err(JournalFault::NoMemory),
     }
 }
 
-/// Reads the entry of the slot at the place, whose gate is open.
-fn read_entry<D: Disk>(alloc: Global, disk: &mut D, at: u64) -> Result<Entry, JournalFault>
+/// Reads the entry of the slot at the place, whose gate is open and whose record is of this format.
+fn read_entry<D: Disk>(
+    alloc: Global,
+    disk: &mut D,
+    format: Format,
+    at: u64,
+) -> Result<Entry, JournalFault>
     requires { at + 8192 ≤ D.extent disk.old }
     ensures record { IfOk result HasRecord }
-    ensures entry { IfOk result (λ entry. (seen : ℕ → ℕ) → Sees (D.media disk.old) seen → seen at ≡ 165 → IsSlot seen at (record_bytes entry)) }
-    ensures refused { IfErr result (λ fault. (seen : ℕ → ℕ) → Sees (D.media disk.old) seen → RefusesSlot seen at fault) }
+    ensures entry { IfOk result (λ entry. (seen : ℕ → ℕ) → Sees (D.media disk.old) seen → seen at ≡ 165 → IsSlot seen at (record_bytes format entry)) }
+    ensures refused { IfErr result (λ fault. (seen : ℕ → ℕ) → Sees (D.media disk.old) seen → RefusesSlot format seen at fault) }
     ensures keeps { KeepsMedia (D.media disk.old) (D.media disk.new) }
     ensures extent { D.extent disk.new ≡ D.extent disk.old }
     ensures cause { Caused (D.faults disk.old) (D.faults disk.new) result }
@@ -44,7 +50,7 @@ fn read_entry<D: Disk>(alloc: Global, disk: &mut D, at: u64) -> Result<Entry, Jo
 {
     let mut room = [0; SLOT];
     match read_slot(disk, at, &mut room) {
-        Ok(Some(len)) => return entry_in(alloc, &room[3..3 + len], at),
+        Ok(Some(len)) => return entry_in(alloc, &room[3..3 + len], format, at),
         Ok(None) => return Err(JournalFault::NotOurs { at }),
         Err(Failed) => return Err(JournalFault::DiskFault),
     }
@@ -61,10 +67,10 @@ fn read_entries<D: Disk>(
     ensures each { IfOk result (AllByRecursion HasRecord) }
     ensures entries { IfOk result (λ entries. (seen : ℕ → ℕ) → Sees (D.media disk.old) seen →
         IsCount store.now.slots (store.now.selector % 2) seen store.now.used →
-        HasFirst store.now.slots (store.now.selector % 2) seen entries) }
+        HasFirst store.now.slots (store.now.selector % 2) store.now.format seen entries) }
     ensures refused { IfErr result (λ fault. (seen : ℕ → ℕ) → Sees (D.media disk.old) seen →
         IsCount store.now.slots (store.now.selector % 2) seen store.now.used →
-        RefusesHalf store.now.slots (store.now.selector % 2) seen fault) }
+        RefusesHalf store.now.slots (store.now.selector % 2) store.now.format seen fault) }
     ensures some { IfErr result (λ fault. 0 < store.now.used) }
     ensures keeps { KeepsMedia (D.media disk.old) (D.media disk.new) }
     ensures extent { D.extent disk.new ≡ D.extent disk.old }
@@ -73,7 +79,7 @@ fn read_entries<D: Disk>(
 {
     let mut entries = EntryList::new(alloc);
     for slot in 0..store.used() {
-        let entry = read_entry(alloc, disk, store.place(slot))?;
+        let entry = read_entry(alloc, disk, store.format(), store.place(slot))?;
         entries.push(entry)?;
     }
     Ok(entries)
@@ -119,10 +125,10 @@ pub fn read_half<D: Disk>(
     ensures each { IfOk result (AllByRecursion HasRecord) }
     ensures half { IfOk result (λ entries. (seen : ℕ → ℕ) → Sees (D.media disk.old) seen →
         IsCount store.now.slots (store.now.selector % 2) seen store.now.used →
-        IsHalf store.now.slots (store.now.selector % 2) seen (records_of entries)) }
+        IsHalf store.now.slots (store.now.selector % 2) seen (records_of store.now.format entries)) }
     ensures refused { IfErr result (λ fault. (seen : ℕ → ℕ) → Sees (D.media disk.old) seen →
         IsCount store.now.slots (store.now.selector % 2) seen store.now.used →
-        RefusesHalf store.now.slots (store.now.selector % 2) seen fault) }
+        RefusesHalf store.now.slots (store.now.selector % 2) store.now.format seen fault) }
     ensures some { IfErr result (λ fault. fault ≡ JournalFault.NoMemory → 0 < store.now.used) }
     ensures keeps { KeepsMedia (D.media disk.old) (D.media disk.new) }
     ensures extent { D.extent disk.new ≡ D.extent disk.old }

@@ -7,7 +7,7 @@ use Rattle.gateway_store.specs.Forms.{entries_of}
 use Rattle.gateway_store.specs.Stores.{IsOn}
 use Rattle.gateway_agent.specs.Keeping.{agent}
 use Rattle.gateway_agent.proofs.Opening.{found_again, ok_both, restarted_in}
-use Rattle.gateway_agent.proofs.Runs.{represents_has}
+use Rattle.slot_journal.proofs.Crashing.{represents_has}
 use Rattle.gateway_agent.proofs.beginning.restart.Goals as goal
 
 pub returns-clause-restarted : goal.returns-clause-restarted

@@ -8,4 +8,4 @@ returns-in-Ok-clause-entry c =
     (record { typed = is.typed; within = is.within }, is.is)
 
 pub returns-in-Err-NotEntry-clause-refused : goal.returns-in-Err-NotEntry-clause-refused
-returns-in-Err-NotEntry-clause-refused c = (refl, λ entry is. whole_before c.args.bytes.now _ (c.in-Err-NotEntry.ensures.broken _ c.in-Err-NotEntry.field-0-is) (entry, is))
+returns-in-Err-NotEntry-clause-refused c = (refl, λ entry is. whole_before c.args.format c.args.bytes.now _ (c.in-Err-NotEntry.ensures.broken _ c.in-Err-NotEntry.field-0-is) (entry, is))

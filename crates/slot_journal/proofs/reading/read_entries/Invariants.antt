@@ -15,5 +15,5 @@ invariant-loop-slot g l = record {
   beside : g.D.Disk.beside l.fn.disk l.disk;
   count : length l.entries ≡ l.slot;
   each : AllByRecursion HasRecord l.entries;
-  filled : (seen : ℕ → ℕ) → Sees (g.D.Disk.media l.fn.disk) seen → IsCount l.store.slots (l.store.selector % 2) seen l.store.used → HasFirst l.store.slots (l.store.selector % 2) seen l.entries;
+  filled : (seen : ℕ → ℕ) → Sees (g.D.Disk.media l.fn.disk) seen → IsCount l.store.slots (l.store.selector % 2) seen l.store.used → HasFirst l.store.slots (l.store.selector % 2) l.store.format seen l.entries;
 }

@@ -1,4 +1,4 @@
-use Rattle.std.proofs.Common.{refl, ◌∙◌, subst, ap, ℕ, ◌≡◌, ◌%◌}
+use Rattle.std.proofs.Common.{subst, ◌%◌}
 use Rattle.std.proofs.lemmas.Result.{err_from_is_err_and}
 use Rattle.slot_store.proofs.DiskReading.{reads_then, sees_unchanged}
 use Rattle.slot_journal.specs.Refused.{IsNoWant}
@@ -7,7 +7,7 @@ use Rattle.slot_journal.proofs.reading.read_half.Goals as goal
 
 pub returns-clause-half : goal.returns-clause-half
 returns-clause-half g c = λ seen sees count.
-    whole_half c.args.store.now.slots (c.args.store.now.selector % 2) c.args.store.now.used seen c.in_ok-entries.entries count c.in_ok-entries.ensures.count (c.in_ok-entries.ensures.entries seen sees count)
+    whole_half c.args.store.now.slots (c.args.store.now.selector % 2) c.args.store.now.used c.args.store.now.format seen c.in_ok-entries.entries count c.in_ok-entries.ensures.count (c.in_ok-entries.ensures.entries seen sees count)
     (c.in_ok-check_rest.ensures.closed seen (sees_unchanged _ _ seen c.in_ok-entries.ensures.keeps sees))
 
 pub returns-clause-keeps : goal.returns-clause-keeps
@@ -31,7 +31,7 @@ pub returns-in_err-check_rest-clause-refused : goal.returns-in_err-check_rest-cl
 returns-in_err-check_rest-clause-refused g c =
     let p = err_from_is_err_and c.from_residual-in_err-check_rest.result c.from_residual-in_err-check_rest.ensures.1 in
     rw (p.1, p.2) (λ seen sees count.
-    rest_refused c.args.store.now.slots (c.args.store.now.selector % 2) c.args.store.now.used seen c.in_ok-entries.entries _ count c.in_ok-entries.ensures.count (c.in_ok-entries.ensures.entries seen sees count) c.in_ok-entries.ensures.each
+    rest_refused c.args.store.now.slots (c.args.store.now.selector % 2) c.args.store.now.used c.args.store.now.format seen c.in_ok-entries.entries _ count c.in_ok-entries.ensures.count (c.in_ok-entries.ensures.entries seen sees count) c.in_ok-entries.ensures.each
     (c.in_err-check_rest.ensures.refused seen (sees_unchanged _ _ seen c.in_ok-entries.ensures.keeps sees)))
 
 pub returns-in_err-check_rest-clause-some : goal.returns-in_err-check_rest-clause-some
