@@ -14,7 +14,7 @@ use std::alloc::Global;
 /// More calls than a run of a plan makes.
 const MANY: u64 = 1000;
 
-/// A journal in which each slot has an entry: the first request was accepted 28 times.
+/// A journal of the first format in which each slot has an entry: the first request was accepted 28 times.
 const FULL: &str = "\
 * 0 HEADER
 * 8192 a5007e+00000000000003e8+CLIENT+0100010016+51410001+DONE+PUT+AT_1000
@@ -46,6 +46,39 @@ const FULL: &str = "\
 * 221184 a5007e+0000000000000402+CLIENT+01001b0016+5144001b+DONE+PUT+AT_1000
 * 229376 a5007e+0000000000000403+CLIENT+01001c0016+5144001c+DONE+PUT+AT_1000";
 
+/// The same in the second format.
+const FULL_SEALED: &str = "\
+* 0 HEADER
+* 48 000202
+* 8192 a50087+00000000000003e8+CLIENT+0100010016+51410001+DONE+PUT+AT_1000+01+290a1e2ed6fa0112
+* 16384 a50087+00000000000003e9+CLIENT+0100020016+51440002+DONE+PUT+AT_1000+01+49d8566c5aa9ffb9
+* 24576 a50087+00000000000003ea+CLIENT+0100030016+51440003+DONE+PUT+AT_1000+01+ef4243dd4a326e2e
+* 32768 a50087+00000000000003eb+CLIENT+0100040016+51440004+DONE+PUT+AT_1000+01+61830de88cbed588
+* 40960 a50087+00000000000003ec+CLIENT+0100050016+51440005+DONE+PUT+AT_1000+01+bd43ef5725002795
+* 49152 a50087+00000000000003ed+CLIENT+0100060016+51440006+DONE+PUT+AT_1000+01+a224f8cf217df2b6
+* 57344 a50087+00000000000003ee+CLIENT+0100070016+51440007+DONE+PUT+AT_1000+01+ccaedef5b09cd709
+* 65536 a50087+00000000000003ef+CLIENT+0100080016+51440008+DONE+PUT+AT_1000+01+e0c69e48d2d10f04
+* 73728 a50087+00000000000003f0+CLIENT+0100090016+51440009+DONE+PUT+AT_1000+01+fc95e58b7f90776f
+* 81920 a50087+00000000000003f1+CLIENT+01000a0016+5144000a+DONE+PUT+AT_1000+01+25718379f16e86d9
+* 90112 a50087+00000000000003f2+CLIENT+01000b0016+5144000b+DONE+PUT+AT_1000+01+c9b32ddc2e0e78bb
+* 98304 a50087+00000000000003f3+CLIENT+01000c0016+5144000c+DONE+PUT+AT_1000+01+8b76fe21d1b5dbf3
+* 106496 a50087+00000000000003f4+CLIENT+01000d0016+5144000d+DONE+PUT+AT_1000+01+6f958bad5a150dd6
+* 114688 a50087+00000000000003f5+CLIENT+01000e0016+5144000e+DONE+PUT+AT_1000+01+f4b7e5b1832a8582
+* 122880 a50087+00000000000003f6+CLIENT+01000f0016+5144000f+DONE+PUT+AT_1000+01+a34f7df045278799
+* 131072 a50087+00000000000003f7+CLIENT+0100100016+51440010+DONE+PUT+AT_1000+01+1c35745ddaa19962
+* 139264 a50087+00000000000003f8+CLIENT+0100110016+51440011+DONE+PUT+AT_1000+01+1b9b1146242391c8
+* 147456 a50087+00000000000003f9+CLIENT+0100120016+51440012+DONE+PUT+AT_1000+01+e23cacd1272866cd
+* 155648 a50087+00000000000003fa+CLIENT+0100130016+51440013+DONE+PUT+AT_1000+01+e35d9a413fd287ce
+* 163840 a50087+00000000000003fb+CLIENT+0100140016+51440014+DONE+PUT+AT_1000+01+57a68542efe698ba
+* 172032 a50087+00000000000003fc+CLIENT+0100150016+51440015+DONE+PUT+AT_1000+01+27f7308db5d1d1f0
+* 180224 a50087+00000000000003fd+CLIENT+0100160016+51440016+DONE+PUT+AT_1000+01+276c59abb02a76f5
+* 188416 a50087+00000000000003fe+CLIENT+0100170016+51440017+DONE+PUT+AT_1000+01+23aff8b22df00994
+* 196608 a50087+00000000000003ff+CLIENT+0100180016+51440018+DONE+PUT+AT_1000+01+f9bbcdb346f0a4ac
+* 204800 a50087+0000000000000400+CLIENT+0100190016+51440019+DONE+PUT+AT_1000+01+7c1ed1d715326623
+* 212992 a50087+0000000000000401+CLIENT+01001a0016+5144001a+DONE+PUT+AT_1000+01+d5158ff72507f3fb
+* 221184 a50087+0000000000000402+CLIENT+01001b0016+5144001b+DONE+PUT+AT_1000+01+abc8fe9217ff2c7c
+* 229376 a50087+0000000000000403+CLIENT+01001c0016+5144001c+DONE+PUT+AT_1000+01+3b392c4b6375a778";
+
 /// Requests over a journal.
 #[derive(Clone, Copy)]
 struct Plan<'a> {
@@ -76,9 +109,31 @@ const OVER_NOTHING: Plan<'static> = Plan {
     half: 0,
 };
 
-/// A request over a journal that is compacted for it.
+/// A request over a journal of the first format that has room for it.
+const OVER_FIRST: Plan<'static> = Plan {
+    before: "\
+* 0 HEADER
+* 8192 a5007e+00000000000003e8+CLIENT+0100010016+51410001+DONE+PUT+AT_1000",
+    events: "< at 2000 from 0 5103+001d+ASK_SECOND",
+    requests: 1,
+    asked: "",
+    found: &["= ROW", "= ROW\n= ROW_SECOND"],
+    half: 0,
+};
+
+/// A request over a journal that is compacted for it, from the first format to the second.
 const OVER_FULL: Plan<'static> = Plan {
     before: FULL,
+    events: "< at 2000 from 0 5103+001d+ASK_SECOND",
+    requests: 1,
+    asked: "",
+    found: &["= ROW", "= ROW\n= ROW_SECOND"],
+    half: 1,
+};
+
+/// The same within the second format.
+const OVER_SEALED: Plan<'static> = Plan {
+    before: FULL_SEALED,
     events: "< at 2000 from 0 5103+001d+ASK_SECOND",
     requests: 1,
     asked: "",
@@ -361,27 +416,35 @@ fn survives(alloc: Global, plan: &Plan, onwards: bool) -> Option<bool> {
     Some(survives_over(alloc, plan, before.as_slice(), onwards))
 }
 
-/// Whether both plans survive.
-fn both_survive(alloc: Global, first: &Plan, second: &Plan, onwards: bool) -> bool {
-    survives(alloc, first, onwards) == Some(true) && survives(alloc, second, onwards) == Some(true)
+/// Whether all plans survive.
+fn all_survive(alloc: Global, plans: &[&Plan], onwards: bool) -> bool {
+    for plan in plans {
+        if survives(alloc, plan, onwards) != Some(true) {
+            return false;
+        }
+    }
+    true
 }
+
+/// Requests over journals of both formats, and over none.
+const REQUESTS: [&Plan<'static>; 4] = [&OVER_NOTHING, &OVER_FIRST, &OVER_FULL, &OVER_SEALED];
 
 #[test]
 fn a_call_that_fails(rt: HostRuntime) {
-    assert!(rt; both_survive(rt.alloc(), &OVER_NOTHING, &OVER_FULL, false));
+    assert!(rt; all_survive(rt.alloc(), &REQUESTS, false));
 }
 
 #[test]
 fn all_calls_that_fail(rt: HostRuntime) {
-    assert!(rt; both_survive(rt.alloc(), &OVER_NOTHING, &OVER_FULL, true));
+    assert!(rt; all_survive(rt.alloc(), &REQUESTS, true));
 }
 
 #[test]
 fn a_call_that_fails_in_a_piece(rt: HostRuntime) {
-    assert!(rt; both_survive(rt.alloc(), &REST_OVER_NOTHING, &REST_OVER_FULL, false));
+    assert!(rt; all_survive(rt.alloc(), &[&REST_OVER_NOTHING, &REST_OVER_FULL], false));
 }
 
 #[test]
 fn all_calls_that_fail_in_a_piece(rt: HostRuntime) {
-    assert!(rt; both_survive(rt.alloc(), &REST_OVER_NOTHING, &REST_OVER_FULL, true));
+    assert!(rt; all_survive(rt.alloc(), &[&REST_OVER_NOTHING, &REST_OVER_FULL], true));
 }

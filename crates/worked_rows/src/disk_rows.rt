@@ -1,7 +1,7 @@
 //! Disks that are recovered, and disks that are refused for what they are.
 
-/// A journal with two entries, on which one byte is changed. The first record is that of 104 bytes, and the number of its change is
-/// at 8237.
+/// A journal of the first format with two entries, on which one byte is changed. The first record is that of 104 bytes, and the number of
+/// its change is at 8237. The byte that says the format of the half that isn't in use is not looked at.
 pub const CHANGED: &str = "\
 $ replay settings
 : domain net1
@@ -57,6 +57,28 @@ $ replay settings
 = not ours 49
 ? 7
 
+* 49 02
+= not ours 8192
+? 7
+
+* 50 01
+= ROW
+= ROW_SECOND
+
+* 48 01
+* 50 01
+= not ours 50
+? 7
+
+* 49 01
+* 51 01
+= not ours 49
+? 7
+
+* 51 01
+= not ours 51
+? 7
+
 * 63 01
 = not ours 63
 ? 7
@@ -90,6 +112,89 @@ $ replay settings
 * 16385 ff
 = not ours 16384
 ? 7";
+
+/// A journal of the second format with two entries, on which one byte is changed: of the first record's time, cuid and trigger value, of its
+/// seal, its length, and of the format.
+pub const SEALED: &str = "\
+$ replay settings
+: domain net1
+: prefix net1 192.0.2.0/24
+: prefix net1 2001:db8:1::/48
+: client 0 net1
+: capacity remembered 1
+: capacity domain-mitigations 2
+: capacity client-mitigations 2
+: capacity clients 1
+: capacity aliases 1
+: capacity acls 1
+@ 466944
+* 0 HEADER
+* 48 000202
+* 8192 a50071+AT_5+CLIENT+010001+0000+PUT+AT_5+01+9b41369e56f3c99d
+* 16384 a50071+AT_6+CLIENT+010002+0000+PUT_SECOND+AT_6+01+7eaa1f26cc77e08f
+
+* 0 a5
+= ROW
+= ROW_SECOND
+
+* 8202 04
+= not ours 8192
+? 7
+
+* 8195 01
+= not ours 8192
+? 7
+
+* 8210 7b
+= not ours 8192
+? 7
+
+* 8237 0d
+= not ours 8192
+? 7
+
+* 8299 00
+= not ours 8192
+? 7
+
+* 8299 02
+= not ours 8192
+? 7
+
+* 8300 00
+= not ours 8192
+? 7
+
+* 8307 00
+= not ours 8192
+? 7
+
+* 8308 01
+= ROW
+= ROW_SECOND
+
+* 8194 72
+= not ours 8192
+? 7
+
+* 16394 07
+= not ours 16384
+? 7
+
+* 49 00
+= not ours 8192
+? 7
+
+* 49 03
+= not ours 49
+? 7
+
+* 50 00
+= ROW
+= ROW_SECOND
+
+* 48 01
+* 50 00";
 
 /// Files of other programs, and disks that are too small, whatever they hold. A disk whose gates are all zero holds nothing.
 pub const FOREIGN: &str = "\

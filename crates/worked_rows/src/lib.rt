@@ -39,6 +39,8 @@ mod events;
 #[cfg(test)]
 mod faults;
 #[cfg(test)]
+mod first_format;
+#[cfg(test)]
 mod hosts;
 #[cfg(test)]
 mod http_texts;

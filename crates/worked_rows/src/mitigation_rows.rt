@@ -162,6 +162,27 @@ $ replay settings
 = scrub net1 dz6pHjaADkaFTbjr0JGBpw 16 192.0.2.15/32 any any
 = scrub net1 dz6pHjaADkaFTbjr0JGBpw 17 192.0.2.0/32 any any
 
+# A scope of seventeen addresses.
+< at 1000 from 0 HEAD+MID_123+BODY+91+6c3139322e302e322e302f3332+6c3139322e302e322e312f3332+6c3139322e302e322e322f3332+6c3139322e302e322e332f3332+6c3139322e302e322e342f3332+6c3139322e302e322e352f3332+6c3139322e302e322e362f3332+6c3139322e302e322e372f3332+6c3139322e302e322e382f3332+6c3139322e302e322e392f3332+6d3139322e302e322e31302f3332+6d3139322e302e322e31312f3332+6d3139322e302e322e31322f3332+6d3139322e302e322e31332f3332+6d3139322e302e322e31342f3332+6d3139322e302e322e31352f3332+6d3139322e302e322e31362f3332+LIFETIME_3600
+> to 0 REPLY
+= scrub net1 dz6pHjaADkaFTbjr0JGBpw 123 192.0.2.0/32 any any
+= scrub net1 dz6pHjaADkaFTbjr0JGBpw 123 192.0.2.1/32 any any
+= scrub net1 dz6pHjaADkaFTbjr0JGBpw 123 192.0.2.2/32 any any
+= scrub net1 dz6pHjaADkaFTbjr0JGBpw 123 192.0.2.3/32 any any
+= scrub net1 dz6pHjaADkaFTbjr0JGBpw 123 192.0.2.4/32 any any
+= scrub net1 dz6pHjaADkaFTbjr0JGBpw 123 192.0.2.5/32 any any
+= scrub net1 dz6pHjaADkaFTbjr0JGBpw 123 192.0.2.6/32 any any
+= scrub net1 dz6pHjaADkaFTbjr0JGBpw 123 192.0.2.7/32 any any
+= scrub net1 dz6pHjaADkaFTbjr0JGBpw 123 192.0.2.8/32 any any
+= scrub net1 dz6pHjaADkaFTbjr0JGBpw 123 192.0.2.9/32 any any
+= scrub net1 dz6pHjaADkaFTbjr0JGBpw 123 192.0.2.10/32 any any
+= scrub net1 dz6pHjaADkaFTbjr0JGBpw 123 192.0.2.11/32 any any
+= scrub net1 dz6pHjaADkaFTbjr0JGBpw 123 192.0.2.12/32 any any
+= scrub net1 dz6pHjaADkaFTbjr0JGBpw 123 192.0.2.13/32 any any
+= scrub net1 dz6pHjaADkaFTbjr0JGBpw 123 192.0.2.14/32 any any
+= scrub net1 dz6pHjaADkaFTbjr0JGBpw 123 192.0.2.15/32 any any
+= scrub net1 dz6pHjaADkaFTbjr0JGBpw 123 192.0.2.16/32 any any
+
 # A moment that runs backwards.
 < at 1000 from 0 REQUEST
 < at 500 tick

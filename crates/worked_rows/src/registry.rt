@@ -6,7 +6,7 @@
 //!
 //! [`tables`] says how a table is read, [`entries`] how an entry is, and [`texts`] has the names that stand in them.
 
-mod entries;
+pub mod entries;
 mod exchange_rows;
 mod histories;
 mod history_rows;

@@ -3,11 +3,11 @@
 use crate::block_rows::BLOCKS;
 use crate::connection_rows::CONNECTIONS;
 use crate::datagram_rows::DATAGRAMS;
-use crate::disk_rows::{CHANGED, FOREIGN, JOINS, OTHERS, SIZES};
+use crate::disk_rows::{CHANGED, FOREIGN, JOINS, OTHERS, SEALED, SIZES};
 use crate::disks::goes_over_disk;
 use crate::domain_rows::DOMAINS;
 use crate::faults::{FAULTY, LARGE, UNREAD};
-use crate::journal_rows::{DIGESTS, JOURNALS, TIMES};
+use crate::journal_rows::{DIGESTS, FIRST_FORMAT, JOURNALS, TIMES};
 use crate::list_rows::LISTS;
 use crate::long_lists::{long_list, long_notice};
 use crate::mitigation_rows::{FATES, MITIGATIONS};
@@ -138,11 +138,13 @@ fn runs_of_clients(rt: HostRuntime) {
 fn runs_over_disks(rt: HostRuntime) {
     let alloc = rt.alloc();
     all_hold(&rt, alloc, CHANGED);
+    all_hold(&rt, alloc, SEALED);
     all_hold(&rt, alloc, FOREIGN);
     all_hold(&rt, alloc, SIZES);
     all_hold(&rt, alloc, OTHERS);
     all_hold(&rt, alloc, JOINS);
     all_hold(&rt, alloc, JOURNALS);
+    all_hold(&rt, alloc, FIRST_FORMAT);
     all_hold(&rt, alloc, TIMES);
     all_hold(&rt, alloc, DIGESTS);
     all_hold(&rt, alloc, LISTS);

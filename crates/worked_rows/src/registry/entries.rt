@@ -12,6 +12,7 @@ use dots_lists::List;
 use dots_settings::{Settings, read_settings};
 use entry_records::entry_of;
 use ip_scope::{Family, Prefix, parse_prefix};
+use record_formats::Format;
 use std::alloc::Global;
 use std::test::Fail;
 
@@ -109,7 +110,7 @@ pub fn push_words(
 
 /// The entry of a record, at another second, which may be out of bounds.
 fn entry_at(alloc: Global, second: u64, record: &[u8]) -> Result<Entry, Fail> {
-    match entry_of(alloc, record) {
+    match entry_of(alloc, record, Format::One) {
         Ok(mut entry) => {
             entry.time = second;
             Ok(entry)

@@ -28,7 +28,7 @@ fn limits(client: u32, domain: u32) -> Limits {
 }
 
 /// What is judged by the mid, and the number beside it.
-fn by_mid(request: &Live, live: &[Live]) -> (&'static str, u64) {
+fn by_mid(request: &Live, live: &[Live]) -> (&'static str, u128) {
     let put = &request.put;
     match judge_mid(
         live,
@@ -39,14 +39,14 @@ fn by_mid(request: &Live, live: &[Live]) -> (&'static str, u64) {
         put.trigger,
     ) {
         MidJudgement::Collision => ("collision ", 0),
-        MidJudgement::Refresh { at } => ("refresh ", at as u64),
+        MidJudgement::Refresh { at } => ("refresh ", at as u128),
         MidJudgement::Changed => ("changed ", 0),
         MidJudgement::New => ("new ", 0),
     }
 }
 
 /// What is judged by overlaps and room, and the number beside it.
-fn by_overlap(request: &Live, live: &[Live], limits: Limits) -> (&'static str, u64) {
+fn by_overlap(request: &Live, live: &[Live], limits: Limits) -> (&'static str, u128) {
     let put = &request.put;
     if !are_few(&put.targets) {
         return ("many ", 0);
@@ -61,22 +61,22 @@ fn by_overlap(request: &Live, live: &[Live], limits: Limits) -> (&'static str, u
         &limits,
         put.trigger,
     ) {
-        Judgement::Higher { mid } => ("higher ", u64::from(mid)),
+        Judgement::Higher { mid } => ("higher ", u128::from(mid)),
         Judgement::Other { meeting } => ("other ", meeting),
         Judgement::Full {
             which: Which::Client,
             number,
-        } => ("client ", number),
+        } => ("client ", u128::from(number)),
         Judgement::Full {
             which: Which::Domain,
             number,
-        } => ("domain ", number),
+        } => ("domain ", u128::from(number)),
         Judgement::Fresh => ("fresh ", 0),
     }
 }
 
 /// Whether the name of the request's client is in use by another peer.
-fn use_of(request: &Live, live: &[Live]) -> (&'static str, u64) {
+fn use_of(request: &Live, live: &[Live]) -> (&'static str, u128) {
     match collides(live, request.peer, request.cuid.bytes()) {
         true => ("used ", 0),
         false => ("free ", 0),
@@ -84,13 +84,13 @@ fn use_of(request: &Live, live: &[Live]) -> (&'static str, u64) {
 }
 
 /// What is judged within capacities, which are two numbers.
-fn within(by: &str, request: &Live, live: &[Live]) -> Result<(&'static str, u64), Fail> {
+fn within(by: &str, request: &Live, live: &[Live]) -> Result<(&'static str, u128), Fail> {
     let (client, domain) = two(by)?;
     Ok(by_overlap(request, live, limits(u32::from(client), u32::from(domain))))
 }
 
 /// What is judged of a request, by its client's name, by its mid, or within capacities.
-fn judged(by: &str, request: &Live, live: &[Live]) -> Result<(&'static str, u64), Fail> {
+fn judged(by: &str, request: &Live, live: &[Live]) -> Result<(&'static str, u128), Fail> {
     match by {
         "use" => Ok(use_of(request, live)),
         "mid" => Ok(by_mid(request, live)),

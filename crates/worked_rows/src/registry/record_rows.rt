@@ -4,7 +4,7 @@
 use crate::registry::tables::{Part, Table, all_hold};
 use std::test::Fail;
 
-/// An entry of each kind behind the head: at 5 s, of peer 1, domain 2 and the cuid `a`, by a confirmable message 7, which
+/// An entry of each kind behind the head, in the first format: at 5 s, of peer 1, domain 2 and the cuid `a`, by a confirmable message 7, which
 /// the two bytes `6045` answered. The places of faults are counted from behind the head.
 const CHANGES: Table = (
     "0000000000000005 00000001 0002 0161 020007 0002 6045 ",
@@ -39,14 +39,14 @@ ff = 0
 0b 00 = 1
 0c 00 = 1
 0d = 1
-0d 0000000c 11 = 5
+0d 0000000c 21 = 5
 0d 0000000c 00 00 00 00 00 00 00000e10 0000000000000005 01 = 23
 02 000000 = 4
 02 00000009 00 = 5
 04 00 = 1
 04 41 = 1
 04 01 20 = 2
-03 0161 11 = 3
+03 0161 21 = 3
 03 0161 01 05 = 4
 03 0161 01 04 21 = 5
 03 0161 01 04 00 01 = 6
@@ -54,8 +54,34 @@ ff = 0
 03 0161 00 01 0051 0050 = 8
 05 0161 02 = 3
 05 0161 00 03 = 4
-05 0161 00 00 21 = 5
+05 0161 00 00 41 = 5
 07 00 = 1",
+);
+
+/// The same in the second format: a seal stands behind the change, and a mitigation's trigger value before it.
+const SEALED: Table = (
+    "0000000000000005 00000001 0002 0161 020007 0002 6045 ",
+    "\
+07 5c0945cf52abe5d9 = y
+0b 28b17c14896367f6 = y
+0c e861588f22d40249 = y
+02 00000009 b037c51c2cdb1697 = y
+01 0000000c 01 04 18 000000000000000000000000c0000200 00 00 00 00 01 01 04 18 000000000000000000000000c0000200 00 00 \
+00000e10 0000000000000005 01 ac32d2e2387a703b = y
+01 0000000c 01 04 18 000000000000000000000000c0000200 00 00 00 00 01 01 04 18 000000000000000000000000c0000200 00 00 \
+00000e10 0000000000000005 00 8b2280b0d00b3c00 = y
+01 0000000c 01 04 18 000000000000000000000000c0000200 00 00 00 00 01 01 04 18 000000000000000000000000c0000200 00 00 \
+00000e10 0000000000000005 02 = 62
+01 0000000c 01 04 18 000000000000000000000000c0000200 00 00 00 00 01 01 04 18 000000000000000000000000c0000200 00 00 \
+00000e10 0000000000000005 = 62
+0d = 0
+0e = 0
+07 = 1
+07 5c0945cf52abe5 = 8
+07 5c0945cf52abe5d9 00 = 9
+07 1c0945cf52abe5d9 = 1
+07 5c09458f52abe5d9 = 4
+07 5c0945cf52abe599 = 8",
 );
 
 /// An entry without a cuid and a reply that came by HTTP, and one with the greatest numbers, by a non-confirmable message. Then a lost
@@ -74,6 +100,11 @@ const HEADS: Table = (
 #[test]
 fn records_are_read_and_written(rt: HostRuntime) -> Result<(), Fail> {
     all_hold(&rt, rt.alloc(), Part::Record, &[CHANGES, HEADS])
+}
+
+#[test]
+fn sealed_records_are_read_and_written(rt: HostRuntime) -> Result<(), Fail> {
+    all_hold(&rt, rt.alloc(), Part::Sealed, &[SEALED])
 }
 
 /// The append answers the slot also where a crash lost the entry.

@@ -1,6 +1,6 @@
 //! An answer as it is told, letter by letter.
 
-use itoa::Buffer;
+use itoa::{Buffer, Integer};
 
 /// More letters than a row has.
 const ROOM: usize = 64;
@@ -34,7 +34,7 @@ impl Spelled {
     }
 
     /// Tells all digits of a number.
-    pub fn push_number(&mut self, number: u64) {
+    pub fn push_number<I: Integer>(&mut self, number: I) {
         let mut digits = Buffer::new();
         self.extend(digits.format(number).as_bytes());
     }

@@ -15,6 +15,7 @@ use crate::registry::spelled::Spelled;
 use crate::registry::survivors::spell_survivor;
 use crate::registry::texts::{SETTINGS, TIGHT};
 use dots_settings::Settings;
+use record_formats::Format;
 use std::alloc::Global;
 use std::process::Abort;
 use std::test::Fail;
@@ -25,7 +26,10 @@ pub enum Part {
     Registry,
     History,
     Judgement,
+    /// Records of the first format, each also written and read in the second.
     Record,
+    /// Records of the second format.
+    Sealed,
     Survivor,
     Observers,
     Sender,
@@ -53,7 +57,8 @@ fn spell(
         Part::Registry => spell_registry(alloc, spelled, settings, asked),
         Part::History => spell_history(alloc, spelled, settings, asked),
         Part::Judgement => spell_judged(alloc, spelled, asked),
-        Part::Record => spell_record(alloc, spelled, asked),
+        Part::Record => spell_record(alloc, spelled, Format::One, asked),
+        Part::Sealed => spell_record(alloc, spelled, Format::Two, asked),
         Part::Survivor => spell_survivor(alloc, spelled, settings, asked),
         Part::Observers => spell_observers(alloc, spelled, settings, asked),
         Part::Sender => spell_sender(alloc, spelled, asked),
