@@ -13,5 +13,6 @@ mod requests;
 mod settings;
 
 pub use counting::{is_served, report_of};
+pub use draws::Draws;
 pub use events::loaded_host;
 pub use settings::load_settings;

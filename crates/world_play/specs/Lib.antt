@@ -5,3 +5,4 @@ pub mod Passing
 pub mod Serving
 pub mod Clients
 pub mod Playing
+pub mod Rows

@@ -1,14 +1,22 @@
 //! What is played.
 
-ghost use Rattle.std.specs.Prelude.{◌≡◌, [], option_map, unwrap_or, slice_get};
+ghost use Rattle.std.specs.Prelude.{◌≡◌, [], option_map, unwrap_or, slice_get, length, IfOk};
+ghost use Rattle.filter_table.specs.TableRows.{active_rows};
+ghost use Rattle.dots_settings.specs.Settings.{SettingsValue};
 ghost use Rattle.dots_client.specs.Client.{ClientValue};
+ghost use Rattle.dots_machine.specs.Machine.{State};
+ghost use Rattle.dots_world.specs.Worlds.{World};
+ghost use Rattle.world_play.specs.Playing.{Shows};
+ghost use Rattle.world_play.specs.Rows.{rows_of};
 
 use crate::parties::Parties;
 use crate::passing::GatewaySide;
 use crate::serving::ServerSide;
 use dots_client::{ClientCore, Granted};
 use dots_host::Act;
+use dots_lists::NoMemory;
 use dots_world::Packet;
+use filter_table::FilterTable;
 use std::alloc::Global;
 use std::marker::Model;
 
@@ -41,6 +49,13 @@ impl Model for Played {
 }
 
 impl Played {
+    /// The clients, in the plan's order.
+    pub fn clients(&self) -> &[ClientCore]
+        ensures { result.now ≡ self.now.clients }
+    {
+        self.clients.as_slice()
+    }
+
     /// What the client at a place has as granted, in the order of the mids; nothing where there is no such client.
     pub fn ledger(&self, place: u32) -> &[Granted]
         ensures { result.now ≡ unwrap_or (option_map (λ (client : ClientValue). client.ledger) (slice_get self.now.clients place)) [] }
@@ -64,4 +79,25 @@ impl Played {
     {
         self.server.acts.acts()
     }
+
+    /// How many rows of mitigations filter at the server. There is no memory for more than can be counted.
+    pub fn rows(&self) -> Result<usize, NoMemory>
+        ensures { IfOk result (λ rows. (settings : SettingsValue) (world : World State) → Shows settings self.now world → rows ≡ rows_of world.server) }
+    {
+        count_rows(self.server.server.registry().filters())
+    }
+}
+
+/// How many rows of mitigations filter.
+fn count_rows(table: &FilterTable) -> Result<usize, NoMemory>
+    ensures { IfOk result (λ rows. rows ≡ length (active_rows table.now.scrubs)) }
+{
+    let mut rows = 0;
+    for _row in table.scrubs() {
+        if rows == usize::MAX {
+            return Err(NoMemory);
+        }
+        rows += 1;
+    }
+    Ok(rows)
 }

@@ -50,7 +50,7 @@ fn let_clients_go(_clients: Vec<ClientCore>) {}
 
 impl Played {
     /// Lets all of it go.
-    fn let_go(self) {
+    pub fn let_go(self) {
         let Played {
             server,
             gateway,
@@ -63,7 +63,11 @@ impl Played {
     }
 
     /// The world before its first event.
-    fn begin(alloc: Global, plan: WorldPlan) -> Result<Self, NoMemory>
+    ///
+    /// # Errors
+    ///
+    /// Only for want of memory: of this call, of a party, or of a host.
+    pub fn begin(alloc: Global, plan: WorldPlan) -> Result<Self, NoMemory>
         requires few { length plan.clients < 2 ^ 32 }
         ensures sound { IfOk result IsSound }
         ensures plan { IfOk result (λ played. plan_with plan.settings played.parties ≡ plan_of plan) }
@@ -109,8 +113,13 @@ impl Played {
         Ok(played)
     }
 
-    /// One event, and then each client hands out what is due.
-    fn happen(self, event: &WorldEvent) -> Result<Self, NoMemory>
+    /// One event, and then each client hands out what is due. From each world that was shown before, what is shown now is one that the event
+    /// leads to.
+    ///
+    /// # Errors
+    ///
+    /// Those of [`Played::begin`].
+    pub fn happen(self, event: &WorldEvent) -> Result<Self, NoMemory>
         requires sound { IsSound self }
         requires early { IsEarly event.now }
         ensures sound { IfOk result IsSound }
