@@ -1,4 +1,4 @@
-use Rattle.std.proofs.Common.{◌≡◌, ◌∙◌, arith}
+use Rattle.std.proofs.Common.{◌∙◌, arith}
 use Rattle.slot_store.proofs.DiskReading.{sees_unchanged}
 use Rattle.half_copy.proofs.Writes.{copied, selected}
 use Rattle.half_copy.proofs.copying.copy_half.Goals as goal
