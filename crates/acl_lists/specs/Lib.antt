@@ -1,1 +1,4 @@
+pub mod Fates
+pub mod RowMatching
+pub mod HandedOut
 pub mod Matching

@@ -8,7 +8,7 @@ use Rattle.dots_client.specs.declared.ask.Ask.{Ask}
 use Rattle.dots_client.specs.declared.ask.Ask.TheVariants as ask
 use Rattle.dots_client.specs.declared.granted.Granted.{Granted}
 use Rattle.dots_client.specs.Client.{ClientValue, has_mid, IsKnown}
-use Rattle.ask_settings.specs.declared.planned.Planned.{Planned}
+use Rattle.ask_agent.specs.declared.planned.Planned.{Planned}
 use Rattle.ask_agent.specs.declared.refusal.Refusal.{Refusal}
 use Rattle.ask_agent.specs.declared.unsent.Unsent.{Unsent}
 use Rattle.ask_agent.specs.declared.unsent.Why.{Why}

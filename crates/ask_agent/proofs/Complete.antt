@@ -1,10 +1,10 @@
 -- Which endings are left where no call failed and the settings aren't at fault.
 use Rattle.std.proofs.Common.{◌≡◌, ℕ, ◌⊎◌, inl, inr, Option, Ok, Err, refl, sym, ◌∙◌, subst}
 use Rattle.std.specs.Prelude.{List, IfSome}
-use Rattle.ask_settings.specs.declared.fault.AskSettingsFault.{AskSettingsFault}
-use Rattle.ask_settings.specs.declared.fault.AskSettingsFault.TheVariants as fault
-use Rattle.ask_settings.specs.declared.settings.AskSettings.{AskSettings}
-use Rattle.ask_settings.specs.File.{IsRefused}
+use Rattle.ask_agent.specs.declared.fault.AskSettingsFault.{AskSettingsFault}
+use Rattle.ask_agent.specs.declared.fault.AskSettingsFault.TheVariants as fault
+use Rattle.ask_agent.specs.declared.settings.AskSettings.{AskSettings}
+use Rattle.ask_agent.specs.File.{IsRefused}
 use Rattle.ask_agent.specs.declared.ending.AskEnding.{AskEnding}
 use Rattle.ask_agent.specs.declared.ending.AskEnding.TheVariants as ending
 use Rattle.ask_agent.specs.declared.firsts.Firsts.{Firsts}

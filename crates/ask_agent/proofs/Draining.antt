@@ -3,8 +3,8 @@ use Rattle.std.proofs.Common.{◌≡◌, ℕ, ◌<◌, true, false, List, [], �
 use Rattle.std.specs.Prelude.{is_some}
 use Rattle.std.proofs.lemmas.Bool.{false≢true}
 use Rattle.dots_host.specs.Acts.{Timed}
-use Rattle.dots_agents.specs.Sending.{Handed}
-use Rattle.dots_agents.proofs.Sends.{handed_none}
+use Rattle.dots_host.specs.Sending.{Handed}
+use Rattle.dots_host.proofs.Sends.{handed_none}
 use Rattle.dots_client.specs.Client.{ClientValue, milliseconds, tick_answer, tick_after}
 use Rattle.dots_client.specs.Ending.{turns_left}
 use Rattle.dots_client.proofs.Falls.{due_falls}

@@ -1,3 +1,7 @@
+mod Numbers
+mod Lists
+mod Steps
+mod Within
 pub mod Apart
 pub mod Asks
 pub mod Complete

@@ -4,7 +4,7 @@ use Rattle.std.specs.Prelude.{◌&&◌, nat_le, slice_get, is_some}
 use Rattle.std.specs.Cmp.Derive.{both_true}
 use Rattle.std.specs.List.{list_all}
 use Rattle.std.proofs.lemmas.Bool.{false≢true, leb-true}
-use Rattle.ask_settings.specs.declared.planned.Planned.{Planned}
+use Rattle.ask_agent.specs.declared.planned.Planned.{Planned}
 
 abbrev pub from_on : ℕ → Planned → Bool
 from_on at planned = nat_le at planned.at

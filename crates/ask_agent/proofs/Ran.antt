@@ -7,13 +7,13 @@ use Rattle.dots_host.specs.Acts.{Timed}
 use Rattle.dots_host.specs.Runs.{Trace, resting, Added, EndsBy}
 use Rattle.dots_host.proofs.RunLemmas.{added_weaker}
 use Rattle.dots_client.specs.declared.granted.Granted.{Granted}
-use Rattle.dots_agents.specs.declared.turns.Halt.{Halt}
-use Rattle.dots_agents.specs.declared.turns.Stop.{Stop}
-use Rattle.dots_agents.specs.declared.turns.Stop.TheVariants as stop
-use Rattle.dots_agents.specs.Stopping.{StopsBy, until, is_over_by}
-use Rattle.dots_agents.proofs.Until.{plain_run}
-use Rattle.dots_agents.specs.Writing.{Wrote}
-use Rattle.dots_agents.proofs.Wrote.{wrote_both, wrote_first}
+use Rattle.dots_host.specs.declared.turns.Halt.{Halt}
+use Rattle.dots_host.specs.declared.turns.Stop.{Stop}
+use Rattle.dots_host.specs.declared.turns.Stop.TheVariants as stop
+use Rattle.dots_host.specs.Stopping.{StopsBy, until, is_over_by}
+use Rattle.dots_host.proofs.Until.{plain_run}
+use Rattle.dots_host.specs.AgentWriting.{Wrote}
+use Rattle.dots_host.proofs.Wrote.{wrote_both, wrote_first}
 use Rattle.ask_agent.specs.declared.unsent.Unsent.{Unsent}
 use Rattle.ask_agent.specs.declared.ending.AskEnding.{AskEnding}
 use Rattle.ask_agent.specs.Asking.{AskState, step}

@@ -14,8 +14,8 @@ use Rattle.dots_host.specs.declared.event.What.TheVariants as what
 use Rattle.dots_host.specs.declared.out.OwnedOut.{OwnedOut}
 use Rattle.dots_host.specs.declared.out.OwnedOut.TheVariants as owned
 use Rattle.dots_host.specs.Acts.{Timed, event_of}
-use Rattle.dots_agents.specs.Sending.{Handed}
-use Rattle.dots_agents.proofs.Sends.{handed_then, handed_none}
+use Rattle.dots_host.specs.Sending.{Handed}
+use Rattle.dots_host.proofs.Sends.{handed_then, handed_none}
 use Rattle.ask_agent.specs.declared.refusal.Refusal.{Refusal}
 use Rattle.ask_agent.specs.Asking.{AskState, at_time, answers_to, refused_after, ReceivesDatagram, ReceivesEvent, AsksDue, HandsOut, Takes, Turns, to_server}
 

@@ -18,7 +18,7 @@ use Rattle.dots_client.specs.Answers.{GrantsMid}
 use Rattle.dots_client.specs.Client.{ClientValue, has_mid, is_over, left_at, tick_after}
 use Rattle.dots_client.specs.Receiving.{Receives}
 use Rattle.dots_client.specs.Ledger.{with_row, without_row}
-use Rattle.ask_settings.specs.declared.settings.AskSettings.{AskSettings}
+use Rattle.ask_agent.specs.declared.settings.AskSettings.{AskSettings}
 use Rattle.ask_agent.specs.declared.firsts.Firsts.{Firsts}
 use Rattle.ask_agent.specs.declared.refusal.Refusal.{Refusal}
 use Rattle.ask_agent.specs.declared.unsent.Why.{Why}

@@ -14,8 +14,8 @@ use Rattle.dots_client.specs.declared.heard.Heard.{Heard}
 use Rattle.dots_client.specs.declared.heard.Heard.TheVariants as heard
 use Rattle.dots_client.specs.Client.{ClientValue, has_mid, ask_fault, Faults, asked_at, tick_answer, tick_after}
 use Rattle.dots_client.specs.Receiving.{Receives}
-use Rattle.ask_settings.specs.declared.planned.Planned.{Planned}
-use Rattle.ask_settings.specs.declared.settings.AskSettings.{AskSettings}
+use Rattle.ask_agent.specs.declared.planned.Planned.{Planned}
+use Rattle.ask_agent.specs.declared.settings.AskSettings.{AskSettings}
 use Rattle.ask_agent.specs.declared.firsts.Firsts.{Firsts}
 use Rattle.ask_agent.specs.declared.refusal.Refusal.{Refusal}
 use Rattle.ask_agent.specs.declared.unsent.Unsent.{Unsent}

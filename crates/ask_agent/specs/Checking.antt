@@ -1,10 +1,10 @@
 -- What is told of the settings of a client, without asking.
 use Rattle.std.specs.Prelude.{◌≡◌, ℕ, List, ◌++◌, length, codes, Ok, Err}
-use Rattle.file_checks.specs.declared.checked.Checked.{Checked}
-use Rattle.file_checks.specs.declared.checked.Checked.TheVariants as checked
-use Rattle.file_checks.specs.Summary.{count_line}
-use Rattle.ask_settings.specs.declared.settings.AskSettings.{AskSettings}
-use Rattle.ask_settings.specs.File.{meaning}
+use Rattle.dots_script.specs.declared.checked.Checked.{Checked}
+use Rattle.dots_script.specs.declared.checked.Checked.TheVariants as checked
+use Rattle.dots_script.specs.Summary.{count_line}
+use Rattle.ask_agent.specs.declared.settings.AskSettings.{AskSettings}
+use Rattle.ask_agent.specs.File.{meaning}
 use Rattle.ask_agent.specs.Report.{refusal_line}
 
 -- `cuid: NAME`

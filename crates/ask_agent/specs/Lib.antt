@@ -1,3 +1,9 @@
+pub mod Lines
+pub mod SettingsSaid
+pub mod Admitting
+pub mod File
+pub mod Taking
+pub mod SettingsProtecting
 pub mod Asking
 pub mod Report
 pub mod Numbers

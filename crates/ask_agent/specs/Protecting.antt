@@ -2,7 +2,7 @@
 use Rattle.std.specs.Prelude.{◌≡◌, ℕ, ◌^◌, ◌⊎◌, Bool, true, false, ◌&&◌, nat_le, List, [], ◌∷◌, ◌++◌, length, codes, decimal, Option, Some, None, Result, Ok, Err}
 use Rattle.std.specs.Fmt.{signed_decimal}
 use Rattle.std.specs.Io.KnownBytes.{Appends}
-use Rattle.message_text.specs.MessageText.{code_text}
+use Rattle.coap_message.specs.MessageText.{code_text}
 use Rattle.dots_host.specs.declared.event.Event.TheVariants as event
 use Rattle.dots_host.specs.Acts.{Timed}
 use Rattle.dots_host.specs.Causes.{Rose}
@@ -10,11 +10,11 @@ use Rattle.dots_host.specs.Runs.{Trace, resting, Added, GoOn, EndsBy, events_in}
 use Rattle.dots_host.specs.Writing.{AppendsBeginning, Writes}
 use Rattle.dots_client.specs.declared.granted.Granted.{Granted}
 use Rattle.dots_client.specs.Client.{is_empty}
-use Rattle.dots_agents.specs.Stopping.{until}
-use Rattle.ask_settings.specs.declared.protecting.ProtectWord.{ProtectWord}
-use Rattle.ask_settings.specs.declared.protecting.ProtectWord.TheVariants as word
-use Rattle.ask_settings.specs.declared.settings.AskSettings.{AskSettings}
-use Rattle.ask_settings.specs.Protecting.{protect_settings}
+use Rattle.dots_host.specs.Stopping.{until}
+use Rattle.ask_agent.specs.declared.settings_protecting.ProtectWord.{ProtectWord}
+use Rattle.ask_agent.specs.declared.settings_protecting.ProtectWord.TheVariants as word
+use Rattle.ask_agent.specs.declared.settings.AskSettings.{AskSettings}
+use Rattle.ask_agent.specs.SettingsProtecting.{protect_settings}
 use Rattle.ask_agent.specs.declared.firsts.Firsts.{Firsts}
 use Rattle.ask_agent.specs.declared.protect_ending.ProtectEnding.{ProtectEnding}
 use Rattle.ask_agent.specs.declared.protect_ending.ProtectEnding.TheVariants as ending

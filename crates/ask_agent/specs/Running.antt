@@ -6,8 +6,8 @@ use Rattle.dots_host.specs.Acts.{Timed}
 use Rattle.dots_host.specs.Causes.{Rose}
 use Rattle.dots_host.specs.Runs.{Trace, resting, Added, GoOn, EndsBy, events_in}
 use Rattle.dots_host.specs.Writing.{AppendsBeginning, Writes}
-use Rattle.ask_settings.specs.declared.settings.AskSettings.{AskSettings}
-use Rattle.ask_settings.specs.File.{meaning}
+use Rattle.ask_agent.specs.declared.settings.AskSettings.{AskSettings}
+use Rattle.ask_agent.specs.File.{meaning}
 use Rattle.ask_agent.specs.declared.ending.AskEnding.{AskEnding}
 use Rattle.ask_agent.specs.declared.ending.AskEnding.TheVariants as ending
 use Rattle.ask_agent.specs.declared.firsts.Firsts.{Firsts}

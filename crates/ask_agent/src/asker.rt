@@ -3,22 +3,22 @@
 ghost use Rattle.std.specs.Prelude.{◌≡◌, ◌≤◌, ◌<◌, ◌^◌, ℕ, List, length, max, true, false, is_some, Some, IfOk};
 ghost use Rattle.dots_host.specs.Acts.{IsWithin, event_of};
 ghost use Rattle.dots_host.specs.declared.out.OwnedOut.{OwnedOut};
-ghost use Rattle.dots_agents.specs.Sending.{Handed};
+ghost use Rattle.dots_host.specs.Sending.{Handed};
 ghost use Rattle.dots_client.specs.declared.client.TheConstants.{MAX_MID};
-ghost use Rattle.ask_settings.specs.File.{IsMidFit};
+ghost use Rattle.ask_agent.specs.File.{IsMidFit};
 ghost use Rattle.ask_agent.specs.Asking.{AskState, step, at_time, next_ask, AsksNext, AsksDue, HandsOut, ReceivesDatagram, ReceivesEvent, Takes, to_server, start_of};
 ghost use Rattle.ask_agent.specs.Protecting.{is_over};
 ghost use Rattle.ask_agent.specs.Unmoved.{step_ends, step_fails};
 
 use crate::firsts::Firsts;
 use crate::making::make;
+use crate::planned::Planned;
 use crate::refusal::Refusal;
 use crate::sending::send_due;
+use crate::settings::AskSettings;
 use crate::unsent::Unsent;
-use ask_settings::{AskSettings, Planned};
-use dots_agents::{Agent, send_to};
 use dots_client::{ClientCore, Heard};
-use dots_host::{Got, NoMemory, What, Wire};
+use dots_host::{Agent, Got, NoMemory, What, Wire, send_to};
 use std::alloc::Global;
 use std::marker::Model;
 

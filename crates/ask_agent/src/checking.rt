@@ -5,10 +5,12 @@ ghost use Rattle.dots_host.specs.Causes.{Rose};
 ghost use Rattle.ask_agent.specs.Checking.{ChecksAsk, name_line, settings_lines};
 ghost use Rattle.ask_agent.specs.Report.{refusal_line};
 
-use ask_settings::{AskSettings, AskSettingsFault, read_ask_settings};
+use crate::fault::AskSettingsFault;
+use crate::settings::AskSettings;
+use crate::source::read_ask_settings;
 use dots_host::Source;
 use dots_lists::{Bytes, NoMemory};
-use file_checks::{Checked, Unchecked, add_count};
+use dots_script::{Checked, Unchecked, add_count};
 use itoa::Buffer;
 use std::alloc::Global;
 

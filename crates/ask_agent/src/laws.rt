@@ -3,7 +3,7 @@
 ghost use Rattle.std.specs.Prelude.{◌≢◌, ℕ, ◌+◌, ◌<◌, List};
 ghost use Rattle.dots_host.specs.Acts.{Timed};
 ghost use Rattle.dots_host.specs.Runs.{Trace, resting};
-ghost use Rattle.ask_settings.specs.declared.settings.AskSettings.{AskSettings};
+ghost use Rattle.ask_agent.specs.declared.settings.AskSettings.{AskSettings};
 ghost use Rattle.ask_agent.specs.declared.firsts.Firsts.{Firsts};
 ghost use Rattle.ask_agent.specs.Asking.{AskState, step, start_of};
 ghost use Rattle.ask_agent.specs.Numbers.{number_at, message_id};

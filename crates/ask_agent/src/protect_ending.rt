@@ -1,8 +1,8 @@
 ghost use Rattle.std.specs.Prelude.{◌≡◌};
 ghost use Rattle.ask_agent.specs.Protecting.{protect_status};
 
+use crate::settings_protecting::ProtectWord;
 use crate::verdict::Verdict;
-use ask_settings::ProtectWord;
 
 /// How a run of a client ends that asks once.
 #[derive(Clone, Copy)]

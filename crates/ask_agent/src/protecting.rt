@@ -3,7 +3,7 @@
 ghost use Rattle.std.specs.Prelude.{◌≡◌, ◌≤◌, false, true, map, string_bytes, None};
 ghost use Rattle.dots_host.specs.Causes.{Rose};
 ghost use Rattle.dots_client.specs.declared.client.TheConstants.{MAX_MID};
-ghost use Rattle.ask_settings.specs.File.{IsMidFit};
+ghost use Rattle.ask_agent.specs.File.{IsMidFit};
 ghost use Rattle.ask_agent.specs.declared.protect_ending.ProtectEnding.TheVariants as ending;
 ghost use Rattle.ask_agent.specs.Asking.{start_of};
 ghost use Rattle.ask_agent.specs.Commands.{is_protect};
@@ -13,12 +13,12 @@ ghost use Rattle.ask_agent.specs.Running.{around};
 use crate::asker::Asker;
 use crate::firsts::Firsts;
 use crate::protect_ending::ProtectEnding;
+use crate::settings::AskSettings;
+use crate::settings_protecting::{ProtectFault, ProtectWord, protect_settings};
 use crate::until_answered::UntilAnswered;
 use crate::verdict::{verdict_of, write_verdict};
 use crate::words::protect_words;
-use ask_settings::{AskSettings, ProtectFault, ProtectWord, protect_settings};
-use dots_agents::{Halt, take_turns};
-use dots_host::{MAX_EVENT_BYTES, Sink, Wire, write_all};
+use dots_host::{Halt, MAX_EVENT_BYTES, Sink, Wire, take_turns, write_all};
 use std::alloc::Global;
 
 /// Does what the words `protect HOSTFILE SERVER NAME LIFETIME PREFIXES` ask for, over any wire: at the first event the client asks, and

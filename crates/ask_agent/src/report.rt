@@ -1,14 +1,13 @@
 //! The report of a client.
 
 ghost use Rattle.std.specs.Prelude.{◌≡◌, flat_map};
-ghost use Rattle.dots_agents.specs.Writing.{Wrote};
+ghost use Rattle.dots_host.specs.AgentWriting.{Wrote};
 ghost use Rattle.ask_agent.specs.Report.{why_words, why_number, digits_of, unsent_line, granted_line, refusal_line, report_of};
 
 use crate::asker::Asker;
 use crate::unsent::{Unsent, Why};
-use dots_agents::write_pieces;
 use dots_client::{AskFault, Granted};
-use dots_host::{Failed, Sink};
+use dots_host::{Failed, Sink, write_pieces};
 use itoa::Buffer;
 
 /// Writes what wasn't sent, and what is granted. Where the sink fails a beginning of that was written.

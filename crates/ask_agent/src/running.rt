@@ -3,17 +3,18 @@
 ghost use Rattle.std.specs.Prelude.{◌≡◌, ℕ, ◌≤◌, ◌⊎◌, false, None};
 ghost use Rattle.dots_host.specs.Causes.{Rose};
 ghost use Rattle.dots_client.specs.declared.client.TheConstants.{MAX_MID};
-ghost use Rattle.ask_settings.specs.File.{IsMidFit};
+ghost use Rattle.ask_agent.specs.File.{IsMidFit};
 ghost use Rattle.ask_agent.specs.declared.ending.AskEnding.TheVariants as ending;
 ghost use Rattle.ask_agent.specs.Running.{around, has_asked, RanTo, Begins, Behaves, GivesSettings, GivesFault};
 
 use crate::asker::Asker;
 use crate::ending::AskEnding;
+use crate::fault::AskSettingsFault;
 use crate::firsts::Firsts;
 use crate::report::{write_refusal, write_report};
-use ask_settings::{AskSettings, AskSettingsFault, read_ask_settings};
-use dots_agents::{Halt, take_turns};
-use dots_host::{MAX_EVENT_BYTES, Sink, Source, Wire};
+use crate::settings::AskSettings;
+use crate::source::read_ask_settings;
+use dots_host::{Halt, MAX_EVENT_BYTES, Sink, Source, Wire, take_turns};
 use std::alloc::Global;
 
 /// Reads the settings of a client, takes the events of the wire until the end, and writes the report. The numbers of `firsts` stand

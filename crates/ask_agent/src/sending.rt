@@ -1,13 +1,12 @@
 //! Sending what is due.
 
 ghost use Rattle.std.specs.Prelude.{◌≡◌, List, ℕ, is_some};
-ghost use Rattle.dots_agents.specs.Sending.{Handed};
+ghost use Rattle.dots_host.specs.Sending.{Handed};
 ghost use Rattle.dots_client.specs.Client.{tick_answer, tick_after};
 ghost use Rattle.ask_agent.specs.Asking.{Drains, messages_in, to_server};
 
-use dots_agents::send_to;
 use dots_client::ClientCore;
-use dots_host::Wire;
+use dots_host::{Wire, send_to};
 
 /// Sends to the server all that is due at the time `now`, in seconds.
 pub fn send_due<W: Wire>(core: &mut ClientCore, wire: &mut W, server: u32, now: u64)

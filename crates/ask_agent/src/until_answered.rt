@@ -5,8 +5,7 @@ ghost use Rattle.ask_agent.specs.Protecting.{is_over};
 ghost use Rattle.ask_agent.specs.Unmoved.{step_ends, step_fails};
 
 use crate::asker::Asker;
-use dots_agents::Agent;
-use dots_host::{Got, Wire};
+use dots_host::{Agent, Got, Wire};
 use std::marker::Model;
 
 /// The same client, which is over when all its asks were reached and no request waits for its answer.

@@ -1,16 +1,15 @@
 //! What became of the ask of a client that asks once.
 
 ghost use Rattle.std.specs.Prelude.{◌≡◌};
-ghost use Rattle.dots_agents.specs.Writing.{Wrote};
+ghost use Rattle.dots_host.specs.AgentWriting.{Wrote};
 ghost use Rattle.ask_agent.specs.declared.verdict.Verdict.TheVariants as said;
 ghost use Rattle.ask_agent.specs.Protecting.{verdict_of, verdict_line, verdict_status};
 
 use crate::asker::Asker;
 use crate::refusal::Refusal;
-use dots_agents::write_pieces;
-use dots_host::{Failed, Sink};
+use coap_message::code_text;
+use dots_host::{Failed, Sink, write_pieces};
 use itoa::Buffer;
-use message_text::code_text;
 
 /// What became of an ask.
 #[derive(Clone, Copy)]

@@ -2,7 +2,7 @@
 use Rattle.std.proofs.Common.{◌≡◌, List, Option, Some, None, refl, sym, subst, ◌∙◌}
 use Rattle.dots_host.specs.Acts.{Timed}
 use Rattle.dots_host.specs.declared.act.Act.{Act}
-use Rattle.dots_disk.specs.Beside.{KeepsActs}
+use Rattle.dots_host.specs.Beside.{KeepsActs}
 use Rattle.coap_block.specs.Blocks.{Blocks}
 use Rattle.coap_block.specs.Around.{seen_above, GoesOnSeen}
 

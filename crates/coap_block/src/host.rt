@@ -4,8 +4,7 @@ ghost use Rattle.coap_block.specs.AroundLaws.{same_then, stored_above, seen_stil
 
 use crate::cutting::Cutting;
 use crate::seeing::{reply, see, send_written};
-use dots_disk::{Call, CallLog, Disk, Host};
-use dots_host::{Failed, Got, NoMemory, Out, Sent, Wire};
+use dots_host::{Call, CallLog, Disk, Failed, Got, Host, NoMemory, Out, Sent, Wire};
 use std::alloc::Global;
 use std::marker::Model;
 

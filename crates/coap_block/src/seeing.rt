@@ -7,8 +7,7 @@ ghost use Rattle.coap_block.specs.Blocks.{Sees};
 ghost use Rattle.coap_block.specs.Around.{SeesEvent, SendsOut, leaves_of};
 
 use crate::cutting::Cutting;
-use dots_disk::Host;
-use dots_host::{MAX_EVENT_BYTES, Out, Sent, What};
+use dots_host::{Host, MAX_EVENT_BYTES, Out, Sent, What};
 
 /// A datagram of so many bytes came: how many are seen of it, at the front of the room.
 fn see_datagram(cutting: &mut Cutting, from: u32, len: usize, room: &mut [u8]) -> usize

@@ -8,8 +8,8 @@ use Rattle.dots_history.specs.Entries.{is_signal, signals, may_repeat}
 use Rattle.dots_history.specs.Histories.{or_else, remembered}
 use Rattle.dots_history.specs.Places.{lasts, last_of}
 use Rattle.dots_history.proofs.Remembering.{by_lasts}
-use Rattle.dots_laws.specs.Tables.{ring, pushed}
-use Rattle.dots_laws.proofs.Rings.{ring_push}
+use Rattle.dots_history.specs.Tables.{ring, pushed}
+use Rattle.dots_history.proofs.Rings.{ring_push}
 use Rattle.coap_exchange.specs.declared.message.Message.{Message}
 use Rattle.coap_exchange.specs.declared.pair.Pair.{Pair}
 use Rattle.coap_exchange.specs.Noting.{Call, Note, Move, Said, after_call, after_calls, is_same, noted_by, all_noted, said_by_entry, said_by_message, message_of, HasLasts, AllHave, Remembers, AllRemember}

@@ -3,8 +3,8 @@ use Rattle.std.proofs.Common.{◌≡◌, ℕ, zero, suc, ◌+◌, ◌-◌, ◌<�
 use Rattle.std.proofs.lemmas.Bool.{cases_lt}
 use Rattle.std.proofs.lemmas.List.{drop-append-le, drop-map}
 use Rattle.dots_history.specs.Places.{lasts}
-use Rattle.dots_laws.specs.Tables.{pushed}
-use Rattle.dots_laws.proofs.Rings.{push_full}
+use Rattle.dots_history.specs.Tables.{pushed}
+use Rattle.dots_history.proofs.Rings.{push_full}
 
 drop_next : {A : Type 0} (k : ℕ) (xs : List A) → drop 1 (drop k xs) ≡ drop (suc k) xs
 drop_next zero xs = refl

@@ -1,8 +1,8 @@
 -- The slots of messages put into a list one after the other.
 use Rattle.std.proofs.Common.{◌≡◌, ℕ, ◌+◌, ◌<◌, List, length, drop, get_or, sym, ap, ◌∙◌}
 use Rattle.dots_history.specs.Slots.{placed}
-use Rattle.dots_laws.specs.KeptPlaces.{union}
-use Rattle.dots_laws.proofs.Unions.{union_placed, union_swap, union_append}
+use Rattle.dots_history.specs.KeptPlaces.{union}
+use Rattle.dots_history.proofs.Unions.{union_placed, union_swap, union_append}
 use Rattle.coap_exchange.specs.declared.message.Message.{Message}
 use Rattle.coap_exchange.specs.Rings.{RingValue, slots_of, all_slots}
 use Rattle.coap_exchange.proofs.Places.{drop_more}

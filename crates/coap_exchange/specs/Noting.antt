@@ -3,7 +3,7 @@ use Rattle.std.specs.Prelude.{◌≡◌, ℕ, Bool, ◌&&◌, ◌==◌, if◌the
 use Rattle.dots_history.specs.declared.entry.Entry.{Entry}
 use Rattle.dots_history.specs.declared.entry.MessageKey.{MessageKey}
 use Rattle.dots_history.specs.Places.{lasts}
-use Rattle.dots_laws.specs.Tables.{ring}
+use Rattle.dots_history.specs.Tables.{ring}
 use Rattle.coap_exchange.specs.declared.message.Message.{Message}
 use Rattle.coap_exchange.specs.Rings.{RingValue, ring_of, noted, renumbered, ring_renumbered}
 

@@ -4,7 +4,7 @@ use Rattle.std.specs.List.{find, flat_map}
 use Rattle.dots_history.specs.Entries.{may_repeat}
 use Rattle.dots_history.specs.Places.{last_of}
 use Rattle.dots_history.specs.Slots.{number_in}
-use Rattle.dots_laws.specs.Tables.{pushed}
+use Rattle.dots_history.specs.Tables.{pushed}
 use Rattle.coap_exchange.specs.declared.pair.Pair.{Pair}
 use Rattle.coap_exchange.specs.declared.message.Message.{Message}
 use Rattle.coap_exchange.specs.Pairs.{is_pair}

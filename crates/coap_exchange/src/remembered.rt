@@ -1,7 +1,7 @@
 ghost use Rattle.std.specs.Prelude.{◌≡◌, ◌<◌, ◌≤◌, ◌∷◌, [], map, length, option_copied, true, IfOk};
 ghost use Rattle.std.specs.List.{list_any};
 ghost use Rattle.dots_history.specs.Slots.{Rises};
-ghost use Rattle.dots_laws.specs.KeptPlaces.{union};
+ghost use Rattle.dots_history.specs.KeptPlaces.{union};
 ghost use Rattle.coap_exchange.specs.Firsts.{replace_at};
 ghost use Rattle.coap_exchange.specs.Pairs.{pairs_of};
 ghost use Rattle.coap_exchange.specs.Rings.{empty_ring, grown, is_ring_of, messages_of, reply_to, noted, all_slots, ring_renumbered};

@@ -3,8 +3,8 @@
 ghost use Rattle.std.specs.Prelude.{◌≡◌, ◌≤◌, map, filter, length, option_map, option_copied, vec_capacity, IfOk};
 ghost use Rattle.dots_history.specs.Places.{last_of};
 ghost use Rattle.dots_history.specs.Slots.{Rises, number_in};
-ghost use Rattle.dots_laws.specs.KeptPlaces.{union};
-ghost use Rattle.dots_laws.specs.Tables.{pushed};
+ghost use Rattle.dots_history.specs.KeptPlaces.{union};
+ghost use Rattle.dots_history.specs.Tables.{pushed};
 ghost use Rattle.coap_exchange.specs.Rings.{RingValue, empty_ring, grown, answers, reply_to, slot_of, slots_of, renumbered, ring_renumbered};
 
 use crate::message::Message;

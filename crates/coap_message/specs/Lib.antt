@@ -1,3 +1,5 @@
+pub mod MessageText
+pub mod Printing
 pub mod Message
 pub mod MessageReading
 pub mod CodeValues

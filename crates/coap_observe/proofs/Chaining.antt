@@ -8,10 +8,10 @@ use Rattle.dots_history.specs.Histories.{tally}
 use Rattle.coap_exchange.specs.declared.pair.Pair.{Pair}
 use Rattle.coap_exchange.specs.Firsts.{replace_at}
 use Rattle.coap_exchange.proofs.Firsts.{first_found, first_replaced, none_passes, found_none, replaced_none, one_there}
-use Rattle.linked_orders.specs.Links.{Each, Apart, Distinct}
-use Rattle.linked_orders.specs.Orders.{has_slot, without}
-use Rattle.linked_orders.proofs.Linking.{each_both, each_two, each_weaker}
-use Rattle.linked_orders.proofs.Ringing.{distinct_last}
+use Rattle.coap_observe.specs.Links.{Each, Apart, Distinct}
+use Rattle.coap_observe.specs.Orders.{has_slot, without}
+use Rattle.coap_observe.proofs.Linking.{each_both, each_two, each_weaker}
+use Rattle.coap_observe.proofs.Ringing.{distinct_last}
 use Rattle.coap_observe.specs.Chains.{ChainValue, ChainsValue, no_chain, chain_at, is_chain_of, keys_in, room_in, is_pair_of, room_for, empty_chains, chained, one_chained, chain_left, one_left, IsNowhere, AreWithin, AreChained, HaveRoom, SameRoom}
 use Rattle.coap_observe.specs.Observed.{ObservedValue}
 use Rattle.coap_observe.specs.Rolls.{Member, one_of, is_key, keys_of, observed_of, has_key, one_at, without_key, with_key, peer_of, is_member_of, own_keys}

@@ -7,9 +7,9 @@ use Rattle.dots_history.specs.Entries.{option_any}
 use Rattle.dots_history.specs.Histories.{tally}
 use Rattle.coap_exchange.specs.Firsts.{replace_at}
 use Rattle.coap_exchange.proofs.Firsts.{NonePasses}
-use Rattle.linked_orders.specs.Links.{Each, Apart, Distinct}
-use Rattle.linked_orders.specs.Orders.{without}
-use Rattle.linked_orders.proofs.Linking.{each_at}
+use Rattle.coap_observe.specs.Links.{Each, Apart, Distinct}
+use Rattle.coap_observe.specs.Orders.{without}
+use Rattle.coap_observe.proofs.Linking.{each_at}
 use Rattle.coap_observe.specs.declared.observer.Observer.{Observer}
 use Rattle.coap_observe.specs.Observed.{ObservedValue, is_token, registered_again}
 use Rattle.coap_observe.specs.Observing.{entered}

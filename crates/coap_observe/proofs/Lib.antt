@@ -1,3 +1,9 @@
+pub mod Beginning
+pub mod Circling
+pub mod Filling
+pub mod Linking
+pub mod Placing
+pub mod Ringing
 pub mod Chaining
 pub mod Counting
 pub mod Entering

@@ -2,7 +2,7 @@
 use Rattle.std.proofs.Common.{◌≡◌, ℕ, zero, suc, ◌<◌, List, [], ◌∷◌, length, map, get_or, refl, ap, arith}
 use Rattle.coap_exchange.specs.declared.pair.Pair.{Pair}
 use Rattle.coap_exchange.specs.Firsts.{replace_at}
-use Rattle.linked_orders.specs.Rings.{RingValue, ring_at, begun, with_ring, one_more, one_less, IsOutside}
+use Rattle.coap_observe.specs.Rings.{RingValue, ring_at, begun, with_ring, one_more, one_less, IsOutside}
 use Rattle.coap_observe.specs.declared.chains.Chain.{Chain}
 use Rattle.coap_observe.specs.Chains.{chain_at, empty_chains, peer_chain, room_for, chained, chain_left, IsNowhere, chains_of, chain_peer, peer_in}
 

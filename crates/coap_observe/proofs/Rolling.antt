@@ -4,10 +4,10 @@ use Rattle.std.specs.Prelude.{not, ◌||◌, ◌==◌, is_some, option_map}
 use Rattle.std.specs.List.{find}
 use Rattle.std.proofs.lemmas.Bool.{eqb-true, eq-eqb, ne_eqb, false≢true}
 use Rattle.std.proofs.lemmas.List.{length-map}
-use Rattle.linked_orders.specs.Links.{Each, Apart, Distinct}
-use Rattle.linked_orders.specs.Orders.{is_slot, has_slot, without}
-use Rattle.linked_orders.proofs.Linking.{each_both, each_two, each_weaker}
-use Rattle.linked_orders.proofs.Ringing.{apart_from, distinct_last}
+use Rattle.coap_observe.specs.Links.{Each, Apart, Distinct}
+use Rattle.coap_observe.specs.Orders.{is_slot, has_slot, without}
+use Rattle.coap_observe.proofs.Linking.{each_both, each_two, each_weaker}
+use Rattle.coap_observe.proofs.Ringing.{apart_from, distinct_last}
 use Rattle.coap_observe.specs.Observed.{ObservedValue}
 use Rattle.coap_observe.specs.Rolls.{Member, key_of, one_of, keys_of, is_key, has_key, one_at, without_key, with_key, member_of, members_of, AreThere}
 

@@ -5,9 +5,9 @@ use Rattle.std.specs.Map.{lookup}
 use Rattle.dots_history.specs.Histories.{tally}
 use Rattle.coap_exchange.specs.declared.pair.Pair.{Pair}
 use Rattle.coap_exchange.specs.Firsts.{replace_first}
-use Rattle.linked_orders.specs.Links.{Each, Apart, Distinct}
-use Rattle.linked_orders.specs.Orders.{without}
-use Rattle.linked_orders.specs.Rings.{RingValue}
+use Rattle.coap_observe.specs.Links.{Each, Apart, Distinct}
+use Rattle.coap_observe.specs.Orders.{without}
+use Rattle.coap_observe.specs.Rings.{RingValue}
 use Rattle.coap_observe.specs.declared.chains.Chain.{Chain}
 use Rattle.coap_observe.specs.Rolls.{Member, keys_of, has_key, own_keys}
 

@@ -1,3 +1,10 @@
+pub mod Links
+pub mod Orders
+pub mod Places
+pub mod Rooted
+pub mod Smaller
+pub mod Spots
+pub mod Rings
 pub mod Chains
 pub mod DueAmong
 pub mod Observed

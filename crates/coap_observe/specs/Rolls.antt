@@ -1,7 +1,7 @@
 -- Observers in the order of their registration, each under a key that it keeps.
 use Rattle.std.specs.Prelude.{◌≡◌, ℕ, Bool, not, ◌==◌, is_some, true, List, [], ◌∷◌, ◌++◌, map, filter, Option, Some, None, option_map, if◌then◌else◌}
 use Rattle.std.specs.List.{find, list_any}
-use Rattle.linked_orders.specs.Links.{Each, Apart, Distinct}
+use Rattle.coap_observe.specs.Links.{Each, Apart, Distinct}
 use Rattle.coap_observe.specs.Observed.{ObservedValue}
 
 -- a key with its observer

@@ -2,12 +2,12 @@
 
 ghost use Rattle.std.specs.Prelude.{◌≡◌, ◌<◌, ◌∷◌, [], true, map, length, position, slice_index_or, IfOk};
 ghost use Rattle.dots_history.specs.Histories.{tally};
-ghost use Rattle.linked_orders.specs.Orders.{has_slot};
+ghost use Rattle.coap_observe.specs.Orders.{has_slot};
 ghost use Rattle.coap_observe.specs.Chains.{ChainsValue, is_chain_of, chain_at, keys_in, room_in, is_pair_of, room_for, empty_chains, one_chained, one_left, pair_peer, IsNowhere, AreFirsts, peer_chain};
 
+use crate::rings::Rings;
 use coap_exchange::Pair;
 use dots_lists::NoMemory;
-use linked_orders::Rings;
 use std::alloc::Global;
 use std::collections::HashMap;
 use std::marker::Model;

@@ -15,7 +15,7 @@ pub fn observers_are_due_where_lists_differ()
 
 /// The numbers of an observer rise by one with each reply and notification, in 24 bits. So of all that is sent to it, no two within
 /// 2^24 have the same number (RFC 7641, section 3.4).
-pub fn numbers_tell_the_order()
+pub fn numbers_are_in_order()
     ensures rise { (n k : ℕ) → next_number (number_after k n) ≡ number_after (k + 1) n }
     ensures apart { (n j k : ℕ) → j < k → k < j + 16777216 → number_after j n ≢ number_after k n }
     ensures reply { (observer : Observer) (seen : List (ℕ × ℕ)) (observed : List ObservedValue)

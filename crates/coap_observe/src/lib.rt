@@ -5,7 +5,12 @@
 //! list, and each call says what the list is after it. An observer is due exactly where what there is to see isn't what it was
 //! notified of last.
 //!
-//! Only [`Observers::new`] takes memory. Start reading at `specs/Observing.antt` and `specs/Observed.antt`.
+//! Observers stand in orders of numbers, in which one comes and goes without passing over the others. An [`Order`] is seen as the list of its
+//! slots; these are linked in both directions, and stand at positions in a tree that counts them, so the one at a place is found by going down
+//! as many levels as the logarithm of the room says. Once in as many calls as there is room, when the positions are used up, the slots get
+//! theirs anew. [`Rings`] has several orders, each slot in one of them at most; there a slot isn't found by its place.
+//!
+//! Only [`Observers::new`], [`Order::new`] and [`Rings::new`] take memory. Start reading at `specs/Observing.antt` and `specs/Observed.antt`.
 #![tactic(auto)]
 
 mod chains;
@@ -14,13 +19,19 @@ pub mod laws;
 mod observed;
 mod observer;
 mod observers;
+mod order;
+mod places;
+mod rings;
 mod roll;
 mod seen;
+mod spots;
 mod views;
 
 pub use due_among::DueAmong;
 pub use observed::Observed;
 pub use observer::Observer;
 pub use observers::{Notice, Observers};
+pub use order::Order;
+pub use rings::Rings;
 pub use seen::SeenList;
 pub use views::Views;

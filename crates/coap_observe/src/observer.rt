@@ -1,5 +1,5 @@
 use coap_message::Token;
-use dots_heads::Content;
+use dots_keys::Content;
 use dots_lists::Name;
 
 /// Who observes what (RFC 7641; RFC 9132, section 4.4.2.1). A peer and a token are one observer.

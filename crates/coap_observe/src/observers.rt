@@ -3,7 +3,7 @@ ghost use Rattle.std.specs.List.{find, list_any};
 ghost use Rattle.dots_history.specs.Entries.{option_any};
 ghost use Rattle.dots_history.specs.Histories.{tally};
 ghost use Rattle.coap_exchange.specs.Firsts.{replace_at};
-ghost use Rattle.linked_orders.specs.Links.{Distinct};
+ghost use Rattle.coap_observe.specs.Links.{Distinct};
 ghost use Rattle.coap_observe.specs.Chains.{chain_at, room_in, AreChained, SameRoom};
 ghost use Rattle.coap_observe.specs.Rolls.{keys_of, observed_of, has_key, one_at, without_key, first_key, peer_of};
 ghost use Rattle.coap_observe.specs.DueAmong.{includes_one};

@@ -6,9 +6,9 @@ ghost use Rattle.coap_observe.specs.Rolls.{RollValue, keys_of, has_key, one_at, 
 
 use crate::observed::Observed;
 use crate::observer::Observer;
+use crate::order::Order;
 use crate::seen::SeenList;
 use dots_lists::NoMemory;
-use linked_orders::Order;
 use slab::Slab;
 use std::alloc::Global;
 use std::marker::Model;

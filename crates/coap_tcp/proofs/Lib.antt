@@ -1,3 +1,5 @@
+pub mod FrameLemmas
+pub mod Connections
 pub mod Rests
 pub mod Lengths
 pub mod CutValues

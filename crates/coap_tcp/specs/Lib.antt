@@ -1,3 +1,5 @@
+pub mod Turns
+pub mod Connections
 pub mod Frames
 pub mod FrameReading
 pub mod Streams

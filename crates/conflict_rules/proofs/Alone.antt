@@ -9,17 +9,17 @@ use Rattle.dots_history.specs.declared.entry.Entry.{Entry}
 use Rattle.dots_history.specs.Entries.{is_held, undoes, is_deregister, option_any}
 use Rattle.dots_history.specs.Histories.{mitigations, stays, held, alone}
 use Rattle.dots_history.specs.Rows.{is_lost_in}
-use Rattle.dots_laws.specs.Capacities.{is_registration}
-use Rattle.dots_laws.specs.Tables.{Client, is_of}
-use Rattle.dots_laws.specs.Views.{mitigations_of}
-use Rattle.dots_laws.proofs.Apart.{apart}
-use Rattle.dots_laws.proofs.Isolating.{lost_alone}
-use Rattle.dots_laws.proofs.Single.{is_of_client}
+use Rattle.dots_history.specs.Capacities.{is_registration}
+use Rattle.dots_history.specs.Tables.{Client, is_of}
+use Rattle.dots_history.specs.Views.{mitigations_of}
+use Rattle.dots_history.proofs.Apart.{apart}
+use Rattle.dots_history.proofs.Isolating.{lost_alone}
+use Rattle.dots_history.proofs.Single.{is_of_client}
 use Rattle.conflict_rules.specs.ByMid as by_mid
 use Rattle.conflict_rules.specs.Lives.{live_of, lives_of}
 use Rattle.conflict_rules.specs.LiveViews.{LiveView, live_views_of, live_views_in}
-use Rattle.dots_laws.specs.Held.{aliases_of, registers, registrant, of_client}
-use Rattle.dots_laws.proofs.Written.{reg_undone, aliases_alone}
+use Rattle.dots_history.specs.Held.{aliases_of, registers, registrant, of_client}
+use Rattle.dots_history.proofs.Written.{reg_undone, aliases_alone}
 use Rattle.conflict_rules.specs.Requests.{Request, ClientValue}
 use Rattle.conflict_rules.specs.Judging.{judge_put}
 use Rattle.conflict_rules.specs.ByHistory.{collides, judge_request}

@@ -16,10 +16,10 @@ use Rattle.dots_history.specs.Entries.{undoes, undoes_of_client, undoes_alias, r
 use Rattle.dots_history.specs.Histories.{stays, held}
 use Rattle.dots_history.specs.Places.{IsHeld}
 use Rattle.dots_history.proofs.HeldPlaces.{held_at_place, place_is_held}
-use Rattle.dots_laws.specs.Capacities.{is_registration}
-use Rattle.dots_laws.specs.Tables.{Client, is_of}
-use Rattle.dots_laws.proofs.Members.{In, any_of}
-use Rattle.dots_laws.specs.Held.{alias_of, written, aliases_of, registers}
+use Rattle.dots_history.specs.Capacities.{is_registration}
+use Rattle.dots_history.specs.Tables.{Client, is_of}
+use Rattle.dots_history.proofs.Members.{In, any_of}
+use Rattle.dots_history.specs.Held.{alias_of, written, aliases_of, registers}
 use Rattle.conflict_rules.specs.Targets.{target_of, own_target, alias_named, is_unknown, alias_target, targets_of}
 use Rattle.conflict_rules.specs.Judgements.{HoldsIn, HoldsAlias, HasUnknown, AliasTargets, AreTargets}
 use Rattle.conflict_rules.proofs.LivePlaces.{in_found}

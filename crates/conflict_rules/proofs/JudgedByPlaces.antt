@@ -12,7 +12,7 @@ use Rattle.dots_history.specs.declared.put.Put.{Put}
 use Rattle.dots_history.specs.declared.put.Target.{Target}
 use Rattle.dots_history.specs.Bounds.{prefix_count}
 use Rattle.dots_history.specs.Histories.{held}
-use Rattle.dots_laws.specs.Tables.{Client}
+use Rattle.dots_history.specs.Tables.{Client}
 use Rattle.conflict_rules.specs.declared.live.Live.{Live}
 use Rattle.conflict_rules.specs.declared.by_overlap.Judgement.{Judgement}
 use Rattle.conflict_rules.specs.declared.by_overlap.Judgement.TheVariants as judgement
@@ -22,7 +22,7 @@ use Rattle.conflict_rules.specs.Wanted.{wanted}
 use Rattle.conflict_rules.specs.ByMid.{has_mid}
 use Rattle.conflict_rules.specs.ByOverlap.{highest_mid, is_contested, resolved, meets_another, meeting, staying, own_staying, judge_room, judge_others, judge_by}
 use Rattle.conflict_rules.specs.Lives.{lives_of}
-use Rattle.dots_laws.specs.Held.{aliases_of}
+use Rattle.dots_history.specs.Held.{aliases_of}
 use Rattle.conflict_rules.specs.declared.fault.PutFault.{PutFault}
 use Rattle.conflict_rules.specs.declared.fault.PutFault.TheVariants as faults
 use Rattle.conflict_rules.specs.declared.judging.Judged.{Judged}

@@ -14,4 +14,4 @@ pub mod JudgedByPlaces
 pub mod Alone
 mod Rooms
 mod TakingMemory
-pub mod Standing
+pub mod StandingLives

@@ -15,8 +15,8 @@ use Rattle.dots_history.specs.Keeping.{is_open}
 use Rattle.dots_history.specs.Places.{Stands, Terminating, Live}
 use Rattle.dots_history.proofs.Fates.{Fate, fate_of}
 use Rattle.dots_history.proofs.PlaceLaws.{live_at_place, place_is_live, to_after, after_place}
-use Rattle.dots_laws.specs.Views.{mitigations_of}
-use Rattle.dots_laws.proofs.Members.{In}
+use Rattle.dots_history.specs.Views.{mitigations_of}
+use Rattle.dots_history.proofs.Members.{In}
 use Rattle.conflict_rules.specs.declared.live.Live.{Live as LiveView}
 use Rattle.conflict_rules.specs.Lives.{put_or_nothing, live_of, lives_of}
 use Rattle.conflict_rules.specs.Judgements.{LivesIn, StandsIn, Number}

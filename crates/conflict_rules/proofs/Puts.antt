@@ -10,7 +10,7 @@ use Rattle.dots_history.specs.declared.change.Change.TheVariants as change
 use Rattle.dots_history.specs.declared.status.Status.{Status}
 use Rattle.dots_history.specs.Entries.{put_of, option_any}
 use Rattle.dots_history.specs.Histories.{live, tally}
-use Rattle.dots_laws.proofs.Touching.{never_live}
+use Rattle.dots_history.proofs.Touching.{never_live}
 use Rattle.conflict_rules.specs.Lives.{put_or_nothing}
 
 none_put : (o : Option Put) → option_any (λ (put : Put). true) o ≡ false → o ≡ None

@@ -6,14 +6,14 @@ use Rattle.std.proofs.lemmas.Bool.{false≢true, both_ways, cond_both, cond-true
 use Rattle.std.proofs.lemmas.Option.{none-some, same_Some}
 use Rattle.std.proofs.lemmas.Slice.Eq.{bytes_eq-Decides}
 use Rattle.ip_scope.specs.Prefix.{PrefixValue, meets}
-use Rattle.filter_rows.specs.Fates.{greatest, greatest_from}
+use Rattle.acl_lists.specs.Fates.{greatest, greatest_from}
 use Rattle.dots_history.specs.declared.entry.Entry.{Entry}
 use Rattle.dots_history.specs.declared.put.Put.{Put}
 use Rattle.dots_history.specs.declared.change.Change.TheVariants as change
 use Rattle.dots_history.specs.Entries.{some_prefix, ends, replaces, same_client, option_any, put_of}
 use Rattle.dots_history.specs.Histories.{held}
-use Rattle.dots_laws.specs.Tables.{Client}
-use Rattle.dots_laws.proofs.Members.{In, any_of, in_map}
+use Rattle.dots_history.specs.Tables.{Client}
+use Rattle.dots_history.proofs.Members.{In, any_of, in_map}
 use Rattle.conflict_rules.specs.declared.live.Live.{Live}
 use Rattle.conflict_rules.specs.Live.{is_of, stands_for, stands_against, would_end}
 use Rattle.conflict_rules.specs.ByMid as by_mid
@@ -21,7 +21,7 @@ use Rattle.conflict_rules.specs.ByMid.{has_mid}
 use Rattle.conflict_rules.specs.ByOverlap.{rivals, is_higher, is_contested, resolved, meets_another, bits, staying, own_staying}
 use Rattle.conflict_rules.proofs.Contesting.{contested_marked}
 use Rattle.conflict_rules.specs.Lives.{lives_of, put_or_nothing}
-use Rattle.dots_laws.specs.Held.{registers, is_of_another}
+use Rattle.dots_history.specs.Held.{registers, is_of_another}
 use Rattle.conflict_rules.specs.ByHistory.{collides}
 use Rattle.conflict_rules.specs.Judgements.{StandsIn, IsTaken, by_mitigation, by_registration, HasMid, IsHigher, Meets, Those, Stays, StaysOwn, Number}
 use Rattle.conflict_rules.proofs.LivePlaces.{At, PassesAt, seen_at, in_found, in_any, seen_there, there_seen, lives_at, at_lives, same_put, standing_at, stands_at, lives_of_standing, number_by, number_passing}

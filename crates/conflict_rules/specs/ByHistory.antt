@@ -3,10 +3,10 @@ use Rattle.std.specs.Prelude.{ℕ, Bool, ◌||◌, List, Result}
 use Rattle.dots_settings.specs.Settings.{SettingsValue}
 use Rattle.dots_history.specs.declared.entry.Entry.{Entry}
 use Rattle.dots_history.specs.Histories.{held}
-use Rattle.dots_laws.specs.Tables.{Client}
+use Rattle.dots_history.specs.Tables.{Client}
 use Rattle.conflict_rules.specs.ByMid as by_mid
 use Rattle.conflict_rules.specs.Lives.{lives_of}
-use Rattle.dots_laws.specs.Held.{aliases_of, registrant, is_of_another}
+use Rattle.dots_history.specs.Held.{aliases_of, registrant, is_of_another}
 use Rattle.conflict_rules.specs.declared.fault.PutFault.{PutFault}
 use Rattle.conflict_rules.specs.declared.judging.Judged.{Judged}
 use Rattle.conflict_rules.specs.Requests.{Request, ClientValue}

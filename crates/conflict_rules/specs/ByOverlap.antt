@@ -3,7 +3,7 @@
 use Rattle.std.specs.Prelude.{ℕ, ◌+◌, ◌*◌, Bool, true, false, ◌&&◌, not, if◌then◌else◌, nat_lt, nat_le, List, [], ◌∷◌, map, filter, Option, Some, None}
 use Rattle.std.specs.List.{list_any, count_by, flat_map}
 use Rattle.ip_scope.specs.Prefix.{PrefixValue, meets}
-use Rattle.filter_rows.specs.Fates.{greatest}
+use Rattle.acl_lists.specs.Fates.{greatest}
 use Rattle.dots_settings.specs.declared.limits.Limits.{Limits}
 use Rattle.dots_history.specs.declared.put.Put.{Put}
 use Rattle.dots_history.specs.declared.put.Target.{Target}

@@ -13,7 +13,7 @@ use Rattle.dots_history.specs.declared.change.Change.TheVariants as change
 use Rattle.dots_history.specs.Bounds.{prefix_count}
 use Rattle.dots_history.specs.Entries.{some_prefix}
 use Rattle.dots_history.specs.Places.{Stands, Live, IsHeld}
-use Rattle.dots_laws.specs.Tables.{Client}
+use Rattle.dots_history.specs.Tables.{Client}
 use Rattle.conflict_rules.specs.declared.by_overlap.Which.TheVariants as which
 use Rattle.conflict_rules.specs.Asking.{would_refresh}
 use Rattle.conflict_rules.specs.Wanted.{wanted}

@@ -1,3 +1,4 @@
+pub mod AskableTargets
 pub mod Requests
 pub mod Targets
 pub mod Marking
@@ -13,4 +14,4 @@ pub mod LiveViews
 pub mod Statuses
 pub mod ByHistory
 pub mod Judgements
-pub mod Standing
+pub mod Neighbours

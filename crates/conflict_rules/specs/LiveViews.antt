@@ -7,7 +7,7 @@ use Rattle.dots_history.specs.declared.status.Status.{Status}
 use Rattle.dots_history.specs.declared.status.Status.TheVariants.{Ended, Open, Withdrawn}
 use Rattle.dots_history.specs.Entries.{put_of}
 use Rattle.dots_history.specs.Histories.{Mitigation, mitigations, seconds_left}
-use Rattle.dots_laws.specs.Views.{mitigations_of}
+use Rattle.dots_history.specs.Views.{mitigations_of}
 use Rattle.conflict_rules.specs.Lives.{put_or_nothing}
 
 -- what a reader sees of a mitigation

@@ -5,7 +5,7 @@ use Rattle.dots_history.specs.declared.put.Put.{Put}
 use Rattle.dots_history.specs.Entries.{put_of}
 use Rattle.dots_history.specs.Histories.{Mitigation, mitigations}
 use Rattle.dots_history.specs.Keeping.{is_open}
-use Rattle.dots_laws.specs.Views.{mitigations_of}
+use Rattle.dots_history.specs.Views.{mitigations_of}
 use Rattle.conflict_rules.specs.declared.live.Live.{Live}
 use Rattle.conflict_rules.specs.Wanted.{wanted}
 

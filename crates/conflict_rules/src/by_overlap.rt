@@ -10,10 +10,9 @@ ghost use Rattle.conflict_rules.specs.ByOverlap.{is_higher, highest_mid, is_cont
 use crate::live::{Mitigates, is_of, stands_against, stands_for};
 use crate::meeting::meeting;
 use crate::request::Request;
-use acl_lists::Asked;
+use acl_lists::{Asked, greatest_from};
 use dots_history::TargetList;
 use dots_settings::Limits;
-use filter_rows::greatest_from;
 
 /// What the live mitigations of its domain make of a new mitigation.
 #[derive(Clone, Copy)]
@@ -94,7 +93,7 @@ fn judge_others<T: Mitigates>(
     )
 }
 
-#[tactic(auto, using(filter_rows::proofs::Greatest::greater_more))]
+#[tactic(auto, using(acl_lists::proofs::Greatest::greater_more))]
 fn highest_mid<T: Mitigates>(live: &[T], cuid: &[u8], request: &Request<'_>) -> Option<u32>
     ensures { result ≡ highest_mid (map T.live live.now) cuid.now request.now }
 {

@@ -13,7 +13,7 @@ ghost use Rattle.conflict_rules.specs.Wanted.{wanted};
 ghost use Rattle.conflict_rules.specs.Live.{would_end};
 ghost use Rattle.conflict_rules.specs.ByOverlap.{resolved, meets_another, meeting, is_contested};
 ghost use Rattle.conflict_rules.specs.Judgements.{StandsIn};
-ghost use Rattle.conflict_rules.specs.Standing.{StandBeside};
+ghost use Rattle.conflict_rules.specs.Neighbours.{StandBeside};
 
 /// Bit i of the number of a contested request is 1 exactly where its resolved prefix i meets a standing mitigation of
 /// another client, and past its prefixes there is no bit.

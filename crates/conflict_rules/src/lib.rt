@@ -8,6 +8,9 @@
 //! `Lives`, `ByHistory` and `LiveViews` say which mitigations a history has at a time, how it judges a request by them, and what is shown
 //! of them (with `Statuses`); `Judgements` says the judgement by the places of the entries.
 //!
+//! Which targets may be asked for in a domain (RFC 9132, section 4.4.1; RFC 8783, section 6.1), and which destinations of an access list (RFC
+//! 8783, section 7.2), is in `specs/AskableTargets.antt`: [`scope_fault`] and [`list_fault`] answer the first [`TargetFault`] of what is asked.
+//!
 //! When two mitigations overlap, and when one ends another, is defined in `dots_history`. No call takes memory.
 #![tactic(auto)]
 
@@ -22,6 +25,8 @@ mod marking;
 mod meeting;
 mod put_request;
 mod request;
+mod scopes;
+mod target;
 mod targets;
 
 pub use by_mid::{MidJudgement, collides, judge_mid};
@@ -30,3 +35,5 @@ pub use fault::PutFault;
 pub use judging::{Judged, judge_put};
 pub use live::{Live, Mitigates};
 pub use put_request::{Client, PutRequest};
+pub use scopes::{list_fault, scope_fault};
+pub use target::TargetFault;

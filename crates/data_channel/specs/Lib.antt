@@ -1,3 +1,6 @@
+pub mod Asking
+pub mod Decisions
+pub mod Judging
 pub mod Paths
 pub mod Places
 pub mod Heads

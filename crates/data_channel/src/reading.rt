@@ -13,7 +13,7 @@ use crate::heads::{head_of, is_yang_json};
 use crate::reject::{RestReject, reject_of};
 use crate::request::{Head, RestRequest, Wanted};
 use http_cut::HttpRequest;
-use json_room::{JsonFault, JsonRoom, read_json};
+use list_json::{JsonFault, JsonRoom, read_json};
 use serde_json::Value;
 use std::alloc::Global;
 

@@ -9,8 +9,7 @@ ghost use Rattle.dots_bench.specs.Sizes.{size_in, entries_in, prefixes_in};
 
 use anyhow::{Result, bail};
 use data_channel::{acl_body, alias_body};
-use json_room::{JsonRoom, read_json};
-use list_json::ListFault;
+use list_json::{JsonRoom, ListFault, read_json};
 use serde_json::Value;
 use std::alloc::Global;
 

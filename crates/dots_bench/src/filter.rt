@@ -1,11 +1,10 @@
 //! Fates of packets by the rows of a table, again and again.
 
-use acl_lists::Packet;
+use acl_lists::{Fate, Packet, ScrubRow};
 use anyhow::{Context, Result, bail, ensure};
 use dots_host::MemorySource;
 use dots_lists::{Bytes, List, Text};
 use dots_settings::{Settings, read_settings};
-use filter_rows::{Fate, ScrubRow};
 use filter_table::FilterTable;
 use ip_scope::{Addr, Family, Prefix, parse_prefix};
 use std::alloc::Global;

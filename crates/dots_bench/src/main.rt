@@ -1,29 +1,41 @@
 //! The program `dots_bench`: `codec CASEFILE REPS` decodes the bytes of each case of a file so often; `filter ROWS PACKETS
 //! REPS` asks so often for the fate of each packet of a file by the rows of another; and `cycle KEYS REPS` gives each of so many keys a
 //! deadline, and then takes the key with the least time out and sets it anew, so often. How long that takes is for the caller to
-//! measure.
+//! measure. `fates SEED COUNT` draws so many tables of filters, each with packets, and prints of each its script for `nft` and the fate of
+//! each packet by the table; `script ROWS` prints the script of a table of so many rows.
 //!
 //! A case is a line `KIND.NAME HEX`, with the kind `coap`, `cbor`, `json`, `http`, `whole` or `single`. `json` is a body of the data
 //! channel with an alias or an access list. The last three are bytes of a stream: `http` cuts a stream that holds them, `whole` takes them in one piece and cuts then, and `single` takes them one by
 //! one and cuts behind each. A row is a line `PREFIX MID`, a packet a line of an IPv4 address. For each case the program prints its name and what its decodes add up to. A cycle prints
 //! the two numbers, how many of the dues were answered, and what the keys that were answered come to, in their order: no two deadlines
 //! have the same time, so that order is the only one. It ends with status 0 only where there is a case and every decode of every case went well.
+//!
+//! A drawn table is a line `table N`, the script, a line `packet FAMILY SOURCE DESTINATION PROTOCOL SOURCEPORT DESTINATIONPORT FATE NUMBER`
+//! for each packet, and a line `end`. Addresses are decimal numbers. Ports are 0 where the protocol has none. The fates are `pass`,
+//! `accepted`, `dropped` and `scrubbed`. The number is that of the list among all lists of the table, the mid, or 0.
 #![tactic(auto)]
 
 mod bodies;
 mod codec;
 mod cycle;
+mod drawing;
+mod draws;
 mod filter;
 mod fronts;
+mod lists;
+mod packets;
+mod rows;
+mod tables;
 
 use anyhow::{Context, Result, bail, ensure};
 use codec::Codec;
+use drawing::{draw_tables, print_script};
 use std::alloc::Global;
 use std::{env, fs};
 
 /// The command line.
 const USAGE: &str =
-    "usage: dots_bench codec CASEFILE REPS | filter ROWS PACKETS REPS | cycle KEYS REPS";
+    "usage: dots_bench codec CASEFILE REPS | filter ROWS PACKETS REPS | cycle KEYS REPS | fates SEED COUNT | script ROWS";
 
 /// The decimal number of repetitions, at least one.
 fn parse_repetitions(word: &str) -> Result<u64> {
@@ -122,6 +134,8 @@ fn run(rt: &HostRuntime, words: &[String]) -> Result<()> {
         "codec" => run_cases(rt, words),
         "filter" => run_filter(rt, words),
         "cycle" => run_cycles(rt, words),
+        "fates" => draw_tables(rt, words),
+        "script" => print_script(rt, words),
         _ => bail!("{USAGE}"),
     }
 }

@@ -6,7 +6,7 @@ use Rattle.std.proofs.lemmas.List.Quantifiers.{position-Some}
 use mir.Val.{to_z, of_z}
 use mir.ValLaws.{to_z-of_z}
 use Rattle.std.specs.Int.{w32}
-use Rattle.agent_messages.specs.Grants.{IsGranted}
+use Rattle.dots_client.specs.Grants.{IsGranted}
 use Rattle.acl_lists.specs.declared.asked.Asked.{Asked}
 use Rattle.coap_exchange.specs.Firsts.{without_first}
 use Rattle.coap_exchange.proofs.Firsts.{remove_at, first_replaced, first_found, none_passes, found_none}

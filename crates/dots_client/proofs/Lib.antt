@@ -1,3 +1,8 @@
+pub mod Behind
+pub mod Bodies
+pub mod Heads
+pub mod Shapes
+pub mod Read
 pub mod Beside
 pub mod Ends
 pub mod Falls

@@ -5,7 +5,7 @@ use Rattle.coap_message.specs.declared.codes.TheConstants.{CREATED, DELETED, CHA
 use Rattle.coap_message.specs.Message.{CoapMessage}
 use Rattle.acl_lists.specs.declared.asked.Asked.{Asked}
 use Rattle.reply_bodies.specs.Mitigations.{granted_tree}
-use Rattle.agent_messages.specs.Grants.{IsGranted}
+use Rattle.dots_client.specs.Grants.{IsGranted}
 use Rattle.dots_client.specs.declared.answers.Answer.{Answer}
 use Rattle.dots_client.specs.declared.answers.Answer.TheVariants as answer
 use Rattle.dots_client.specs.declared.request.Request.{Request}

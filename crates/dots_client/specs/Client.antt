@@ -6,7 +6,7 @@ use Rattle.acl_lists.specs.declared.asked.Asked.{Asked}
 use Rattle.coap_exchange.specs.Firsts.{replace_first}
 use Rattle.coap_exchange.specs.Sent.{SentValue, is_due, given, repeated, may_repeat}
 use Rattle.coap_message.specs.Message.{spelling}
-use Rattle.agent_messages.specs.Requests.{asking, withdrawing}
+use Rattle.dots_client.specs.Requests.{asking, withdrawing}
 use Rattle.dots_client.specs.declared.ask.Ask.{Ask}
 use Rattle.dots_client.specs.declared.ask.Ask.TheVariants as ask
 use Rattle.dots_client.specs.declared.ask.AskFault.{AskFault}

@@ -1,3 +1,7 @@
+pub mod Options
+pub mod Requests
+pub mod Grants
+pub mod Asked
 pub mod Answers
 pub mod Client
 pub mod Cuid

@@ -8,8 +8,8 @@ use Rattle.coap_message.specs.declared.codes.TheConstants.{PUT, DELETED, CHANGED
 use Rattle.coap_message.specs.declared.kind.Kind.TheVariants.{Non}
 use Rattle.coap_message.specs.declared.option_numbers.TheConstants.{URI_PATH, HOP_LIMIT}
 use Rattle.coap_message.specs.Message.{CoapMessage, IsMessage, spelling}
-use Rattle.dots_heads.specs.Options.{values_of, value_of, option_number}
-use Rattle.dots_heads.specs.Paths.{heartbeat, resource_at}
+use Rattle.dots_keys.specs.Options.{values_of, value_of, option_number}
+use Rattle.dots_keys.specs.Paths.{heartbeat, resource_at}
 use Rattle.dots_client.specs.declared.granted.Granted.{Granted}
 use Rattle.dots_client.specs.declared.heard.Heard.{Heard}
 use Rattle.dots_client.specs.declared.heard.Heard.TheVariants as heard

@@ -3,8 +3,8 @@
 ghost use Rattle.std.specs.Prelude.{IfOk, OnErr, IsSome};
 ghost use Rattle.dots_client.specs.Answers.{Says, SaysGrant, SaysWithdrawn};
 
+use crate::grants::granted_in;
 use crate::request::Request;
-use agent_messages::granted_in;
 use cbor_profile::{CborFault, decode};
 use coap_message::Message;
 use coap_message::codes::{CHANGED, CREATED, DELETED};

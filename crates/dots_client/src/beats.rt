@@ -1,14 +1,14 @@
 //! Heartbeats of the server.
 
 ghost use Rattle.std.specs.Prelude.{◌≡◌, ◌≢◌, true, false};
-ghost use Rattle.dots_heads.specs.Options.{value_of};
+ghost use Rattle.dots_keys.specs.Options.{value_of};
 ghost use Rattle.dots_client.specs.Receiving.{IsBeat, is_spent_hop, beat_code, beat_answer};
 
 use crate::short::Short;
 use coap_message::codes::{BAD_REQUEST, CHANGED, PUT};
 use coap_message::option_numbers::HOP_LIMIT;
 use coap_message::{Kind, Message, Parts};
-use dots_heads::{Resource, option_number, resource_of, value_of};
+use dots_keys::{Resource, option_number, resource_of, value_of};
 
 /// Whether the message is a heartbeat (RFC 9132, section 4.7).
 pub fn is_beat(message: &Message<'_>) -> bool

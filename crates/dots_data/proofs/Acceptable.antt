@@ -11,10 +11,10 @@ use Rattle.dots_history.specs.declared.entry.Entry.{Entry}
 use Rattle.dots_history.specs.Bounds.{within_bounds}
 use Rattle.dots_history.specs.Entries.{same_client}
 use Rattle.dots_history.specs.Histories.{Mitigation, Within, tally, mitigations, held}
-use Rattle.dots_laws.specs.Calm.{may_act}
-use Rattle.dots_laws.specs.Capacities.{is_registration, is_alias, is_list}
-use Rattle.dots_laws.specs.Fits.{last_or, last_time}
-use Rattle.dots_laws.specs.Fits as laws
+use Rattle.dots_history.specs.Calm.{may_act}
+use Rattle.dots_history.specs.Capacities.{is_registration, is_alias, is_list}
+use Rattle.dots_history.specs.Fits.{last_or, last_time}
+use Rattle.dots_history.specs.Fits as laws
 use Rattle.installed_filters.specs.HistoryRows.{KeepsLimits}
 use Rattle.http_cut.specs.Requests.{Request}
 use Rattle.data_channel.specs.declared.reject.RestReject.{RestReject}

@@ -3,8 +3,8 @@ use Rattle.std.specs.Prelude.{◌≡◌, ◌<◌, ◌^◌, true, List, ⊤}
 use Rattle.dots_settings.specs.Settings.{SettingsValue}
 use Rattle.dots_history.specs.declared.entry.Entry.{Entry}
 use Rattle.dots_history.specs.Histories.{mitigations}
-use Rattle.dots_laws.specs.Calm.{is_own}
-use Rattle.dots_laws.specs.Fits.{has_one_peer}
+use Rattle.dots_history.specs.Calm.{is_own}
+use Rattle.dots_history.specs.Fits.{has_one_peer}
 use Rattle.dots_registry.specs.RegistryValues.{RegistryValue, Represents, time_of}
 use Rattle.dots_registry.specs.Fitting.{fits_now}
 use Rattle.dots_registry.specs.Limits.{ClientsKeepLimits}

@@ -1,8 +1,8 @@
 -- Of what there may be only so many.
 use Rattle.held_resources.specs.declared.kind.RoomKind.{RoomKind}
 use Rattle.held_resources.specs.declared.kind.RoomKind.TheVariants as room
-use Rattle.rest_judging.specs.declared.asking.RestKind.{RestKind}
-use Rattle.rest_judging.specs.declared.asking.RestKind.TheVariants as kind
+use Rattle.data_channel.specs.declared.asking.RestKind.{RestKind}
+use Rattle.data_channel.specs.declared.asking.RestKind.TheVariants as kind
 
 abbrev pub room_of : RestKind → RoomKind
 room_of kind.Client = room.Client

@@ -8,12 +8,11 @@ ghost use Rattle.rest_answers.specs.Replies.{decision_reply};
 ghost use Rattle.rest_answers.specs.Answers.{changing};
 
 use crate::desk::Desk;
-use data_channel::RestRequest;
+use data_channel::{RestDecision, RestRequest};
 use dots_history::Entry;
 use dots_lists::NoMemory;
 use installed_filters::Staged;
 use rest_answers::{Caller, RestAnswer, RestReply, decision_reply, entry_of};
-use rest_judging::RestDecision;
 
 /// The answer to a request that is accepted with this outcome.
 pub fn accept(

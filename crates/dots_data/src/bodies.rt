@@ -3,7 +3,7 @@
 ghost use Rattle.std.specs.Prelude.{◌≡◌, List, IfOk, Some, option_map, option_copied};
 ghost use Rattle.dots_history.specs.declared.entry.Entry.{Entry};
 ghost use Rattle.dots_history.specs.Histories.{held};
-ghost use Rattle.dots_laws.specs.Held.{aliases_of, acls_of, alias_named, acl_named};
+ghost use Rattle.dots_history.specs.Held.{aliases_of, acls_of, alias_named, acl_named};
 ghost use Rattle.data_channel.specs.declared.replies.RestBody.TheVariants as bodies;
 ghost use Rattle.dots_registry.specs.RegistryValues.{Represents};
 ghost use Rattle.rest_answers.specs.Known.{client_for};

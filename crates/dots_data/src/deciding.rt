@@ -7,27 +7,28 @@ ghost use Rattle.data_channel.specs.Replies.{body_data};
 ghost use Rattle.dots_settings.specs.Lookups.{role_of};
 ghost use Rattle.dots_history.specs.declared.entry.Entry.{Entry};
 ghost use Rattle.dots_history.specs.Histories.{held};
-ghost use Rattle.dots_laws.specs.Calm.{may_act};
-ghost use Rattle.dots_laws.specs.Held.{aliases_of, acls_of};
+ghost use Rattle.dots_history.specs.Calm.{may_act};
+ghost use Rattle.dots_history.specs.Held.{aliases_of, acls_of};
 ghost use Rattle.dots_registry.specs.RegistryValues.{Represents, IsOf, time_of, domains_of};
 ghost use Rattle.rest_answers.specs.declared.answer.RestAnswer.TheVariants as answers;
 ghost use Rattle.rest_answers.specs.Known.{client_for, known_of};
 ghost use Rattle.rest_answers.specs.Replies.{content_reply, decision_reply, unavailable};
 ghost use Rattle.rest_answers.specs.Answers.{showing, telling, body_of, rest_answer, Answers};
-ghost use Rattle.rest_judging.specs.Asking.{verb_of, kind_of};
+ghost use Rattle.data_channel.specs.Asking.{verb_of, kind_of};
 ghost use Rattle.dots_data.specs.Accepting.{IsInUse, CanCarryOut};
 
 use crate::accepting::accept;
 use crate::bodies::body_of;
 use crate::desk::Desk;
 use crate::facts::facts;
-use data_channel::{RestBody, RestRequest, body_text, read_rest};
+use data_channel::{
+    RestBody, RestDecision, RestRequest, body_text, judge, kind_of, read_rest, verb_of,
+};
 use dots_lists::{Bytes, NoMemory};
 use http_cut::HttpRequest;
 use installed_filters::Staged;
-use json_room::JsonRoom;
+use list_json::JsonRoom;
 use rest_answers::{Caller, RestAnswer, content_reply, decision_reply, rejection, unavailable};
-use rest_judging::{RestDecision, judge, kind_of, verb_of};
 use std::alloc::Global;
 
 /// What is answered to a message of a client peer of the settings, of which the registry is. The room serves one message after the other.

@@ -3,18 +3,17 @@
 ghost use Rattle.std.specs.Prelude.{◌≡◌, ◌<◌, List};
 ghost use Rattle.dots_history.specs.declared.entry.Entry.{Entry};
 ghost use Rattle.dots_history.specs.Histories.{held};
-ghost use Rattle.dots_laws.specs.Tables.{Client};
+ghost use Rattle.dots_history.specs.Tables.{Client};
 ghost use Rattle.dots_registry.specs.RegistryValues.{Represents, IsOf, time_of, domains_of};
-ghost use Rattle.rest_judging.specs.Asking.{kind_of, cuid_of, name_of};
+ghost use Rattle.data_channel.specs.Asking.{kind_of, cuid_of, name_of};
 ghost use Rattle.rest_answers.specs.Known.{is_there, is_full, facts_of};
 ghost use Rattle.dots_data.specs.Rooms.{room_of};
 
 use crate::desk::Desk;
-use data_channel::RestRequest;
+use data_channel::{RestFacts, RestKind, RestRequest, cuid_of, kind_of, name_of};
 use dots_registry::Registry;
 use held_resources::RoomKind;
 use rest_answers::{Caller, is_faulty};
-use rest_judging::{RestFacts, RestKind, cuid_of, kind_of, name_of};
 
 /// What is known of a request of this caller.
 pub fn facts(desk: &Desk<'_>, caller: Caller, request: &RestRequest) -> RestFacts

@@ -3,7 +3,7 @@
 ghost use Rattle.std.specs.Prelude.{◌≡◌, ◌<◌, ℕ, true, List, Some, IfSome, is_some, length};
 ghost use Rattle.dots_settings.specs.Lookups.{role_of};
 ghost use Rattle.dots_history.specs.declared.entry.Entry.{Entry};
-ghost use Rattle.dots_laws.specs.Calm.{may_act};
+ghost use Rattle.dots_history.specs.Calm.{may_act};
 ghost use Rattle.stream_table.specs.Lines.{Line};
 ghost use Rattle.stream_table.specs.Places.{line_at, conn_at};
 ghost use Rattle.dots_registry.specs.RegistryValues.{Represents, IsOf, time_of};
@@ -16,7 +16,7 @@ use crate::stream::RestStream;
 use dots_settings::{Role, Settings};
 use http_cut::{Cut, HeadRoom};
 use installed_filters::Staged;
-use json_room::JsonRoom;
+use list_json::JsonRoom;
 use rest_answers::{Caller, RestFront};
 use stream_table::{LinePlace, StreamTable};
 

@@ -4,7 +4,7 @@ ghost use Rattle.std.specs.Prelude.{◌≡◌, ◌++◌, ◌∷◌, [], true, Li
 ghost use Rattle.dots_settings.specs.Settings.{SettingsValue};
 ghost use Rattle.dots_settings.specs.Lookups.{role_of};
 ghost use Rattle.dots_history.specs.declared.entry.Entry.{Entry};
-ghost use Rattle.dots_laws.specs.Calm.{may_act};
+ghost use Rattle.dots_history.specs.Calm.{may_act};
 ghost use Rattle.http_cut.specs.Requests.{Request};
 ghost use Rattle.dots_registry.specs.RegistryValues.{RegistryValue, Represents, IsOf, time_of};
 ghost use Rattle.rest_answers.specs.declared.caller.Caller.{Caller};

@@ -5,7 +5,7 @@ use Rattle.dots_host.specs.declared.event.What.{What}
 use Rattle.dots_host.specs.declared.event.What.TheVariants as what
 use Rattle.dots_host.specs.Acts.{WireAct, took, event_of, wire_acts, Adds}
 use Rattle.dots_host.specs.Runs.{Added}
-use Rattle.dots_disk.specs.Stored.{IsOfDisk}
+use Rattle.dots_host.specs.Stored.{IsOfDisk}
 use Rattle.dots_edge.specs.Restarts.{OnRestart, IsNoRestart, AreNoRestarts}
 use Rattle.dots_edge.specs.Edge.{Edge, acts_told, KeepsWire}
 

@@ -1,3 +1,9 @@
+pub mod Places
+pub mod Histories
+pub mod EndpointLemmas
+pub mod Numbers
+pub mod ReadTo
+pub mod Views
 pub mod CallLemmas
 pub mod Walks
 pub mod PlaceLemmas

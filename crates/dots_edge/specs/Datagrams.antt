@@ -4,7 +4,7 @@ use mathlib.Core.Bool.{beq}
 use Rattle.std.specs.List.{slice_get, sum_by}
 use Rattle.std.specs.Net.Socket.{socket_ip}
 use Rattle.std.specs.Net.Addr.{is_ipv6}
-use Rattle.peer_endpoints.specs.declared.way.Way.{Way}
+use Rattle.dots_edge.specs.declared.way.Way.{Way}
 use Rattle.dots_host.specs.declared.event.What.{What}
 use Rattle.dots_host.specs.declared.event.What.TheVariants as what
 use Rattle.dots_host.specs.declared.out.Sent.{Sent}

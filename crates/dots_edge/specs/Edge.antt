@@ -1,15 +1,15 @@
 -- What contracts see of a host of real sockets and a real file.
 use Rattle.std.specs.Prelude.{◌≡◌, ℕ, ◌-◌, Bool, List, [], ◌∷◌, ◌++◌, Option, Some, None}
-use Rattle.plain_text.specs.Lines.{lines_of}
+use Rattle.dots_lists.specs.Lines.{lines_of}
 use Rattle.dots_host.specs.declared.act.Act.{Act}
 use Rattle.dots_host.specs.Acts.{Timed, wire_acts}
 use Rattle.dots_host.specs.Runs.{Added}
-use Rattle.dots_disk.specs.Stored.{AreOfDisk}
+use Rattle.dots_host.specs.Stored.{AreOfDisk}
 use Rattle.dots_edge.specs.Restarts.{AreNoRestarts}
 use Rattle.dots_edge.specs.declared.seconds.Begun.{Begun}
-use Rattle.host_file.specs.HostLine.{LineValue}
-use Rattle.host_file.specs.HostFile.{Stand}
-use Rattle.host_file.specs.Found.{events_in, reserve_in, has_journal}
+use Rattle.dots_edge.specs.HostLine.{LineValue}
+use Rattle.dots_edge.specs.HostFile.{Stand}
+use Rattle.dots_edge.specs.Found.{events_in, reserve_in, has_journal}
 
 -- Whether it is open: a host whose file has a fault, or whose sockets or journal can't be opened, isn't. Whether it has a journal, and
 -- whether that was seen to be gone from its path; how many events are still to come and how many bytes are reserved, where that is said; what the clocks read first, the last time beside an event, and at how many ticks

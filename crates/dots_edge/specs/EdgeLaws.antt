@@ -1,8 +1,8 @@
 -- What the calls of a host keep goes on from call to call, and what those of its disk leave of what its wire tells.
 use Rattle.std.proofs.Common.{◌≡◌, List, [], ◌∷◌, ◌++◌, refl, sym, ap, ◌∙◌, append_assoc, append-nil}
 use Rattle.dots_host.specs.Acts.{Timed, wire_acts}
-use Rattle.dots_disk.specs.Beside.{KeepsActs}
-use Rattle.dots_disk.specs.StoredLaws.{of_disk_then, same_acts}
+use Rattle.dots_host.specs.Beside.{KeepsActs}
+use Rattle.dots_host.specs.StoredLaws.{of_disk_then, same_acts}
 use Rattle.dots_edge.specs.Restarts.{AreNoRestarts}
 use Rattle.dots_edge.specs.Edge.{Edge, acts_told, NeverRestarts, KeepsWire, KeepsDisk}
 

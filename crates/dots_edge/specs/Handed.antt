@@ -6,8 +6,8 @@ use Rattle.dots_host.specs.declared.out.Out.{Out}
 use Rattle.dots_host.specs.declared.out.Out.TheVariants as out
 use Rattle.dots_host.specs.declared.out.Sent.{Sent}
 use Rattle.dots_host.specs.declared.out.Sent.TheVariants as sent
-use Rattle.peer_endpoints.specs.Headers.{head_in}
-use Rattle.peer_endpoints.specs.declared.way.Way.{Way}
+use Rattle.dots_edge.specs.Headers.{head_in}
+use Rattle.dots_edge.specs.declared.way.Way.{Way}
 use Rattle.dots_edge.specs.declared.ends.Ends.{Ends}
 use Rattle.dots_edge.specs.Ways.{way_by}
 use Rattle.dots_edge.specs.Datagrams.{IsSentFrom, SameSignalsBeside, signal_at, place_of}

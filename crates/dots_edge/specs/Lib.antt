@@ -1,3 +1,11 @@
+pub mod Headers
+pub mod Returns
+pub mod Passed
+pub mod HostLine
+pub mod HostFile
+pub mod FaultText
+pub mod Found
+pub mod Complaints
 pub mod Clocks
 pub mod Answers
 pub mod Passing

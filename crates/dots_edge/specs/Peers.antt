@@ -1,6 +1,6 @@
 -- Whose an address is.
 use Rattle.std.specs.Prelude.{ℕ, ◌==◌, if◌then◌else◌, List, [], ◌∷◌, Option, Some, unwrap_or}
-use Rattle.host_file.specs.HostLine.{LineValue, key_of, peer_line}
+use Rattle.dots_edge.specs.HostLine.{LineValue, key_of, peer_line}
 
 -- the peer whose address has the key, by the lines behind those that said this; a later line counts before an earlier one
 abbrev pub whose : Option ℕ → List LineValue → ℕ → Option ℕ

@@ -1,9 +1,9 @@
 -- Where a peer's messages go.
 use Rattle.std.specs.Prelude.{ℕ, Option, Some, None, option_map}
 use Rattle.std.specs.declared.net.socket_addr.SocketAddr.{SocketAddr}
-use Rattle.peer_endpoints.specs.declared.head.Head.{Head}
-use Rattle.peer_endpoints.specs.declared.way.Way.{Way}
-use Rattle.peer_endpoints.specs.Returns.{Reached, after_received, after_sent, goes_to}
+use Rattle.dots_edge.specs.declared.head.Head.{Head}
+use Rattle.dots_edge.specs.declared.way.Way.{Way}
+use Rattle.dots_edge.specs.Returns.{Reached, after_received, after_sent, goes_to}
 
 -- back to where a datagram came from, from the socket on which it came
 abbrev pub way_from : SocketAddr → ℕ → Way

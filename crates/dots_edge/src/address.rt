@@ -5,7 +5,7 @@ ghost use Rattle.std.specs.Net.Addr.{IsIpv6OfBits, IsV6And};
 ghost use Rattle.std.specs.Net.Socket.{socket_ip, socket_port};
 ghost use Rattle.dots_edge.specs.Address.{key_of_ip, IsIpOf};
 
-use host_file::{Endpoint, MAPPED};
+use crate::host_line::{Endpoint, MAPPED};
 use ip_scope::Family;
 use std::net::{IpAddr, Ipv4Addr, Ipv6Addr, SocketAddr};
 

@@ -6,8 +6,7 @@ ghost use Rattle.dots_edge.specs.JournalFile.{room_of};
 
 use crate::journal::room_of;
 use crate::journal_file::{Front, front_of, is_whole};
-use dots_disk::Disk;
-use dots_host::Failed;
+use dots_host::{Disk, Failed};
 use std::fs::{File, Files};
 use std::io;
 use std::io::ErrorKind;

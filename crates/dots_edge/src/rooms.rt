@@ -4,9 +4,9 @@ ghost use Rattle.std.specs.Prelude.{IfOk};
 ghost use Rattle.dots_edge.specs.Places.{NoneOpen};
 
 use crate::connections::Connections;
+use crate::host_line::HostLine;
 use crate::peers::Peers;
 use dots_host::NoMemory;
-use host_file::HostLine;
 use mio::Events;
 use std::alloc::Global;
 
@@ -14,7 +14,7 @@ use std::alloc::Global;
 const ROOM: usize = 4097;
 
 /// How many sockets a wait tells of at most.
-const TOLD_AT_ONCE: usize = 64;
+const READY_AT_ONCE: usize = 64;
 
 /// What of a host takes memory.
 #[derive(Drop)]
@@ -33,7 +33,7 @@ impl Rooms {
     {
         let datagram = vec![in alloc; 0u8; ROOM]?;
         let connections = Connections::new(alloc)?;
-        let events = Events::with_capacity(alloc, TOLD_AT_ONCE)?;
+        let events = Events::with_capacity(alloc, READY_AT_ONCE)?;
         let peers = Peers::new(alloc, lines)?;
         Ok(Rooms {
             connections,

@@ -10,14 +10,14 @@ ghost use Rattle.dots_edge.specs.Datagrams.{HasAsked, HasFailed, HasReceivedAt, 
 use crate::address::socket_address;
 use crate::answer::Answer;
 use crate::connections::MAX_CONNECTIONS;
+use crate::host_line::{Endpoint, HostLine};
 use crate::listener::{Accepted, Listener};
 use crate::signal::{Received, Signal};
 use crate::socket_log::SocketLog;
+use crate::way::Way;
 use dots_host::{NoMemory, Sent};
-use host_file::{Endpoint, HostLine};
 use mio::net::{TcpListener, TcpStream, UdpSocket};
 use mio::{Events, Interest, Poll, Registry, Token};
-use peer_endpoints::Way;
 use std::alloc::Global;
 use std::io;
 use std::io::{Error, ErrorKind};

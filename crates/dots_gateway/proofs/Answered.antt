@@ -7,7 +7,7 @@ use Rattle.std.proofs.lemmas.Bool.{and_parts, eqb-true, ne_eqb}
 use Rattle.std.proofs.lemmas.Option.{none-some, same_Some}
 use Rattle.std.proofs.lemmas.Slice.Eq.{bytes_eq-Decides}
 use Rattle.coap_message.specs.Message.{CoapOption, CoapMessage, IsMessage, spelling}
-use Rattle.dots_heads.specs.Options.{values_of}
+use Rattle.dots_keys.specs.Options.{values_of}
 use Rattle.dots_gateway.specs.declared.exchange.Waiting.{Waiting}
 use Rattle.dots_gateway.specs.declared.passed.Passed.{Passed}
 use Rattle.dots_gateway.specs.declared.passed.Passed.TheVariants as passed

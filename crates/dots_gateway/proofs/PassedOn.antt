@@ -8,15 +8,15 @@ use Rattle.coap_message.specs.declared.kind.Kind.{Kind}
 use Rattle.coap_message.specs.declared.kind.Kind.TheVariants.{Con, Non, Ack, Rst}
 use Rattle.coap_message.specs.Message.{CoapOption, CoapMessage, spelling}
 use Rattle.coap_message.specs.Salvage.{salvaged}
-use Rattle.coap_replies.specs.Exchanges.{exchange_in, is_request, rejected, dismissed_unread}
-use Rattle.coap_replies.specs.Replies.{plain}
-use Rattle.dots_heads.specs.declared.reject.Reject.{Reject}
-use Rattle.dots_heads.specs.declared.reject.Reject.TheVariants as reject
-use Rattle.dots_heads.specs.Heads.{refuse_critical, refuse_hop_limit}
-use Rattle.dots_heads.specs.Options.{first_critical, values_of, value_of, option_number, recognised_value, has_length}
-use Rattle.dots_heads.specs.Paths.{Resource, mitigation, config, heartbeat, path_of, resource_at}
-use Rattle.dots_heads.specs.Results.{◌>>=◌}
-use Rattle.dots_heads.proofs.PathLaws.{read_back}
+use Rattle.dots_keys.specs.Exchanges.{exchange_in, is_request, rejected, dismissed_unread}
+use Rattle.dots_keys.specs.Replies.{plain}
+use Rattle.dots_keys.specs.declared.reject.Reject.{Reject}
+use Rattle.dots_keys.specs.declared.reject.Reject.TheVariants as reject
+use Rattle.dots_keys.specs.Heads.{refuse_critical, refuse_hop_limit}
+use Rattle.dots_keys.specs.Options.{first_critical, values_of, value_of, option_number, recognised_value, has_length}
+use Rattle.dots_keys.specs.Paths.{Resource, mitigation, config, heartbeat, path_of, resource_at}
+use Rattle.dots_keys.specs.Results.{◌>>=◌}
+use Rattle.dots_keys.proofs.PathLaws.{read_back}
 use Rattle.dots_gateway.specs.declared.exchange.Exchange.{Exchange}
 use Rattle.dots_gateway.specs.declared.exchange.Waiting.{Waiting}
 use Rattle.dots_gateway.specs.declared.passed.Passed.TheVariants as passed

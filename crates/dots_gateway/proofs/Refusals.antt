@@ -3,16 +3,16 @@ use Rattle.std.proofs.Common.{◌≡◌, ℕ, Bool, true, false, cond, List, [],
 use Rattle.std.specs.Prelude.{◌==◌, Option, Some, None, Result, Ok, Err, ok_or, ⊤}
 use Rattle.std.proofs.lemmas.Bool.{cond-false, ne_eqb}
 use Rattle.coap_message.specs.Message.{CoapOption, CoapMessage}
-use Rattle.dots_heads.specs.declared.operation.Method.{Method}
-use Rattle.dots_heads.specs.declared.operation.Method.TheVariants as method
-use Rattle.dots_heads.specs.declared.reject.Reject.{Reject}
-use Rattle.dots_heads.specs.declared.reject.Reject.TheVariants as reject
-use Rattle.dots_heads.specs.declared.request.MitigationPath.{MitigationPath}
-use Rattle.dots_heads.specs.Heads.{Head, refuse_critical, refuse_hop_limit, refuse_media, refuse_format, content_of, content_named, observe_of, head_of}
-use Rattle.dots_heads.specs.Operations.{Operation, allowed, method_in, method_of, operation_of, client_name, is_client_name, identifier, is_identifier, optional, mandatory, mitigation_path, mitigation_operation, with_mid}
-use Rattle.dots_heads.specs.Options.{first_critical, values_of, value_of, option_number}
-use Rattle.dots_heads.specs.Paths.{Resource, mitigation, resource_at}
-use Rattle.dots_heads.specs.Results.{◌>>=◌}
+use Rattle.dots_keys.specs.declared.operation.Method.{Method}
+use Rattle.dots_keys.specs.declared.operation.Method.TheVariants as method
+use Rattle.dots_keys.specs.declared.reject.Reject.{Reject}
+use Rattle.dots_keys.specs.declared.reject.Reject.TheVariants as reject
+use Rattle.dots_keys.specs.declared.head_request.MitigationPath.{MitigationPath}
+use Rattle.dots_keys.specs.Heads.{Head, refuse_critical, refuse_hop_limit, refuse_media, refuse_format, content_of, content_named, observe_of, head_of}
+use Rattle.dots_keys.specs.Operations.{Operation, allowed, method_in, method_of, operation_of, client_name, is_client_name, identifier, is_identifier, optional, mandatory, mitigation_path, mitigation_operation, with_mid}
+use Rattle.dots_keys.specs.Options.{first_critical, values_of, value_of, option_number}
+use Rattle.dots_keys.specs.Paths.{Resource, mitigation, resource_at}
+use Rattle.dots_keys.specs.Results.{◌>>=◌}
 use Rattle.dots_gateway.specs.Wanted.{hop_limit, hop_in, refuse_operation}
 use Rattle.dots_gateway.specs.WantedValues.{operation_refusal}
 

@@ -4,8 +4,8 @@ use Rattle.std.specs.Prelude.{◌==◌, not, codes, Option, Some, None}
 use Rattle.std.proofs.lemmas.Bool.{cond-false, eq-eqb}
 use Rattle.std.specs.List.{AllByRecursion}
 use Rattle.coap_message.specs.Message.{CoapOption, AreOptions}
-use Rattle.dots_heads.specs.Options.{values_of}
-use Rattle.dots_heads.specs.Paths.{mitigation, parameter, path_of}
+use Rattle.dots_keys.specs.Options.{values_of}
+use Rattle.dots_keys.specs.Paths.{mitigation, parameter, path_of}
 use Rattle.dots_gateway.specs.Forwarding.{without_observe}
 use Rattle.dots_gateway.specs.Options.{IsShortBehind}
 

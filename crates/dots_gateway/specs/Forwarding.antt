@@ -5,8 +5,8 @@ use Rattle.coap_message.specs.declared.kind.Kind.{Kind}
 use Rattle.coap_message.specs.declared.kind.Kind.TheVariants.{Ack, Non}
 use Rattle.coap_message.specs.declared.option_numbers.TheConstants.{OBSERVE, URI_PATH, CONTENT_FORMAT, URI_QUERY, HOP_LIMIT, ACCEPT}
 use Rattle.coap_message.specs.Message.{CoapOption, CoapMessage}
-use Rattle.dots_heads.specs.Options.{values_of, value_of}
-use Rattle.dots_heads.specs.Paths.{mitigation, path_of}
+use Rattle.dots_keys.specs.Options.{values_of, value_of}
+use Rattle.dots_keys.specs.Paths.{mitigation, path_of}
 use Rattle.dots_history.specs.declared.entry.MessageKey.{MessageKey}
 use Rattle.dots_history.specs.declared.entry.MessageKey.TheVariants as key
 use Rattle.dots_gateway.specs.declared.exchange.Exchange.{Exchange}

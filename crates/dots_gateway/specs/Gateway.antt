@@ -7,14 +7,14 @@ use Rattle.coap_message.specs.declared.kind.Kind.TheVariants.{Con, Non, Ack, Rst
 use Rattle.coap_message.specs.declared.option_numbers.TheConstants.{URI_PATH}
 use Rattle.coap_message.specs.Message.{CoapMessage, IsMessage, spelling}
 use Rattle.coap_message.specs.Salvage.{salvaged}
-use Rattle.coap_replies.specs.declared.dismissal.Dismissal.{Dismissal}
-use Rattle.coap_replies.specs.declared.dismissal.Dismissal.TheVariants as dismissal
-use Rattle.coap_replies.specs.Exchanges.{exchange_in, may_ask, is_request, rejected, dismissed_unread}
-use Rattle.coap_replies.specs.Replies.{plain, rejection, reset_message}
-use Rattle.dots_heads.specs.declared.reject.Reject.{Reject}
-use Rattle.dots_heads.specs.declared.reject.Reject.TheVariants as reject
-use Rattle.dots_heads.specs.Options.{values_of}
-use Rattle.dots_heads.specs.Paths.{heartbeat, resource_at}
+use Rattle.dots_keys.specs.declared.dismissal.Dismissal.{Dismissal}
+use Rattle.dots_keys.specs.declared.dismissal.Dismissal.TheVariants as dismissal
+use Rattle.dots_keys.specs.Exchanges.{exchange_in, may_ask, is_request, rejected, dismissed_unread}
+use Rattle.dots_keys.specs.Replies.{plain, rejection, reset_message}
+use Rattle.dots_keys.specs.declared.reject.Reject.{Reject}
+use Rattle.dots_keys.specs.declared.reject.Reject.TheVariants as reject
+use Rattle.dots_keys.specs.Options.{values_of}
+use Rattle.dots_keys.specs.Paths.{heartbeat, resource_at}
 use Rattle.dots_history.specs.declared.entry.MessageKey.{MessageKey}
 use Rattle.dots_history.specs.declared.entry.MessageKey.TheVariants as key
 use Rattle.dots_gateway.specs.declared.exchange.Exchange.{Exchange}

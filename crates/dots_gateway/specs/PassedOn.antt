@@ -2,8 +2,8 @@
 use Rattle.std.specs.Prelude.{◌≡◌, ℕ, ◌+◌, List, [], Option, Some}
 use Rattle.coap_message.specs.declared.option_numbers.TheConstants.{OBSERVE, URI_PATH, CONTENT_FORMAT, URI_QUERY, ACCEPT}
 use Rattle.coap_message.specs.Message.{CoapMessage, IsMessage, spelling}
-use Rattle.dots_heads.specs.Options.{values_of, value_of}
-use Rattle.dots_heads.specs.Paths.{mitigation, resource_at}
+use Rattle.dots_keys.specs.Options.{values_of, value_of}
+use Rattle.dots_keys.specs.Paths.{mitigation, resource_at}
 use Rattle.dots_gateway.specs.Wanted.{hop_in}
 
 -- The request that is passed on asks the same of the same mitigation. Its cdid is the domain, whatever the client gave (RFC 9132, section

@@ -4,13 +4,13 @@ use Rattle.std.specs.Prelude.{ℕ, false, ◌==◌, if◌then◌else◌, List, O
 use Rattle.coap_message.specs.declared.codes.TheConstants.{PUT}
 use Rattle.coap_message.specs.declared.option_numbers.TheConstants.{URI_PATH, HOP_LIMIT}
 use Rattle.coap_message.specs.Message.{CoapOption, CoapMessage}
-use Rattle.dots_heads.specs.declared.reject.Reject.{Reject}
-use Rattle.dots_heads.specs.declared.reject.Reject.TheVariants as reject
-use Rattle.dots_heads.specs.Heads.{refuse_critical, refuse_hop_limit}
-use Rattle.dots_heads.specs.Operations.{method_of, operation_of}
-use Rattle.dots_heads.specs.Options.{first_critical, values_of, value_of, option_number}
-use Rattle.dots_heads.specs.Paths.{Resource, mitigation, config, heartbeat, resource_at}
-use Rattle.dots_heads.specs.Results.{◌>>=◌}
+use Rattle.dots_keys.specs.declared.reject.Reject.{Reject}
+use Rattle.dots_keys.specs.declared.reject.Reject.TheVariants as reject
+use Rattle.dots_keys.specs.Heads.{refuse_critical, refuse_hop_limit}
+use Rattle.dots_keys.specs.Operations.{method_of, operation_of}
+use Rattle.dots_keys.specs.Options.{first_critical, values_of, value_of, option_number}
+use Rattle.dots_keys.specs.Paths.{Resource, mitigation, config, heartbeat, resource_at}
+use Rattle.dots_keys.specs.Results.{◌>>=◌}
 
 -- what a request has that is passed on: its Hop-Limit, and the texts of the parameters
 pub record Passage : Type 0 where

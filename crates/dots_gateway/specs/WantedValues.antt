@@ -1,8 +1,8 @@
 -- What the code's types of what is wanted stand for.
 use Rattle.std.specs.Prelude.{◌≢◌, ⊤, Result, Ok, Err}
 use Rattle.std.specs.Option.{option_copied}
-use Rattle.dots_heads.specs.declared.reject.Reject.{Reject}
-use Rattle.dots_heads.specs.declared.reject.Reject.TheVariants as reject
+use Rattle.dots_keys.specs.declared.reject.Reject.{Reject}
+use Rattle.dots_keys.specs.declared.reject.Reject.TheVariants as reject
 use Rattle.dots_gateway.specs.declared.wanted.Passage.{Passage}
 use Rattle.dots_gateway.specs.declared.wanted.Wanted.{Wanted}
 use Rattle.dots_gateway.specs.declared.wanted.Wanted.TheVariants as code

@@ -4,8 +4,8 @@ ghost use Rattle.std.specs.Prelude.{◌≡◌, ◌≢◌, ◌≤◌, ◌<◌, �
 ghost use Rattle.std.specs.Option.{option_copied};
 ghost use Rattle.coap_message.specs.declared.option_numbers.TheConstants.{URI_PATH, URI_QUERY};
 ghost use Rattle.coap_message.specs.Message.{last_number, spelling};
-ghost use Rattle.dots_heads.specs.Options.{value_of, values_of};
-ghost use Rattle.dots_heads.specs.Paths.{parameter};
+ghost use Rattle.dots_keys.specs.Options.{value_of, values_of};
+ghost use Rattle.dots_keys.specs.Paths.{parameter};
 ghost use Rattle.dots_gateway.specs.Forwarding.{option_with, option_for, path_for, passed_options, forwarded, answered, answer_kind, without_observe};
 ghost use Rattle.dots_gateway.specs.Options.{IsShortBehind};
 ghost use Rattle.dots_gateway.specs.WantedValues.{passage_value, CanPass};
@@ -18,8 +18,8 @@ use coap_message::option_numbers::{
     ACCEPT, CONTENT_FORMAT, HOP_LIMIT, OBSERVE, URI_PATH, URI_QUERY,
 };
 use coap_message::{Kind, Message};
-use dots_heads::{next_value, value_of};
 use dots_history::MessageKey;
+use dots_keys::{next_value, value_of};
 use dots_lists::{Bytes, Name, NoMemory};
 use std::alloc::Global;
 

@@ -1,12 +1,11 @@
 //! What a gateway answers by itself.
 
 ghost use Rattle.std.specs.Prelude.{◌≡◌, ◌≢◌, [], IfOk};
-ghost use Rattle.coap_replies.specs.Exchanges.{exchange_in};
-ghost use Rattle.coap_replies.specs.Replies.{plain, rejection, reset_message};
+ghost use Rattle.dots_keys.specs.Exchanges.{exchange_in};
+ghost use Rattle.dots_keys.specs.Replies.{plain, rejection, reset_message};
 
 use coap_message::Message;
-use coap_replies::{Exchange, plain, rejection, reset};
-use dots_heads::Reject;
+use dots_keys::{Exchange, Reject, plain, rejection, reset};
 use dots_lists::{Bytes, NoMemory};
 use std::alloc::Global;
 

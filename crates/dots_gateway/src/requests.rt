@@ -3,7 +3,7 @@
 ghost use Rattle.std.specs.Prelude.{◌≡◌, ◌≢◌, None};
 ghost use Rattle.std.specs.List.{find};
 ghost use Rattle.coap_message.specs.Salvage.{salvaged};
-ghost use Rattle.coap_replies.specs.Exchanges.{dismissed_unread};
+ghost use Rattle.dots_keys.specs.Exchanges.{dismissed_unread};
 ghost use Rattle.dots_gateway.specs.Exchanges.{is_from};
 ghost use Rattle.dots_gateway.specs.Gateway.{dismissed_said, refused, same_message, came_again, passed_again, passed_first, passed_on, asked_said};
 ghost use Rattle.dots_gateway.specs.Steps.{Gives, NowWaits, IsOld, is_ignored, replied};
@@ -17,9 +17,8 @@ use crate::replies::{plain_bytes, rejection_bytes, reset_bytes};
 use crate::wanted::{Passage, Wanted, read_wanted};
 use coap_message::codes::CHANGED;
 use coap_message::{Kind, Message};
-use coap_replies::{Dismissal, dismissed_unread, is_request, rejected};
-use dots_heads::Reject;
 use dots_history::MessageKey;
+use dots_keys::{Dismissal, Reject, dismissed_unread, is_request, rejected};
 use dots_lists::Name;
 use std::alloc::Global;
 

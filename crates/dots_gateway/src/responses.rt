@@ -11,8 +11,7 @@ use crate::replies::{plain_bytes, rejection_bytes};
 use crate::wanted::hop_of;
 use coap_message::codes::{CHANGED, PUT};
 use coap_message::{Kind, Message};
-use coap_replies::may_ask;
-use dots_heads::{Reject, Resource, resource_of};
+use dots_keys::{Reject, Resource, may_ask, resource_of};
 use dots_lists::{Bytes, NoMemory};
 use std::alloc::Global;
 

@@ -1,17 +1,17 @@
 //! What a client's message wants of a gateway.
 
 ghost use Rattle.std.specs.Prelude.{◌≡◌, ◌≢◌, ℕ, List, Option, None, Some, IfOk};
-ghost use Rattle.dots_heads.specs.Options.{first_critical, values_of};
-ghost use Rattle.dots_heads.specs.Paths.{mitigation, resource_at};
-ghost use Rattle.dots_heads.specs.Results.{Reads};
+ghost use Rattle.dots_keys.specs.Options.{first_critical, values_of};
+ghost use Rattle.dots_keys.specs.Paths.{mitigation, resource_at};
+ghost use Rattle.dots_keys.specs.Results.{Reads};
 ghost use Rattle.dots_gateway.specs.Wanted.{hop_in, refuse_operation, wanted_of};
 ghost use Rattle.dots_gateway.specs.WantedValues.{wanted_value, IsPassable, operation_refusal};
 
 use coap_message::Message;
 use coap_message::codes::PUT;
 use coap_message::option_numbers::HOP_LIMIT;
-use dots_heads::laws::resource_of_a_path;
-use dots_heads::{Reject, Resource, first_critical, read_head, resource_of, value_of};
+use dots_keys::head_laws::resource_of_a_path;
+use dots_keys::{Reject, Resource, first_critical, read_head, resource_of, value_of};
 
 /// The Hop-Limit of a request that gives none (RFC 8768, section 3).
 const DEFAULT_HOP_LIMIT: u8 = 16;

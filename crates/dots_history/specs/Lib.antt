@@ -1,3 +1,15 @@
+pub mod Calm
+pub mod Capacities
+pub mod Firsts
+pub mod HistoryReading
+pub mod Views
+pub mod Tables
+pub mod Turns
+pub mod Fits
+pub mod Containing
+pub mod KeptPlaces
+pub mod Filed
+pub mod Held
 pub mod Bounds
 pub mod Entries
 pub mod Histories

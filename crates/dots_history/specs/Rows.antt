@@ -6,9 +6,9 @@ use Rattle.acl_lists.specs.declared.acl.Acl.{Acl}
 use Rattle.acl_lists.specs.declared.acl.Activation.{Activation}
 use Rattle.acl_lists.specs.declared.acl.Activation.TheVariants.{WhenMitigating, Immediate, Deactivate}
 use Rattle.acl_lists.specs.declared.packet.Packet.{Packet}
-use Rattle.filter_rows.specs.declared.rows.ScrubRow.{ScrubRow}
-use Rattle.filter_rows.specs.declared.rows.AclRow.{AclRow}
-use Rattle.filter_rows.specs.Fates.{Fate, fate_by_rows}
+use Rattle.acl_lists.specs.declared.rows.ScrubRow.{ScrubRow}
+use Rattle.acl_lists.specs.declared.rows.AclRow.{AclRow}
+use Rattle.acl_lists.specs.Fates.{Fate, fate_by_rows}
 use Rattle.dots_history.specs.declared.entry.Entry.{Entry}
 use Rattle.dots_history.specs.declared.put.Target.{Target}
 use Rattle.dots_history.specs.declared.change.Change.{Change}

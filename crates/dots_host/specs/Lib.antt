@@ -1,3 +1,16 @@
+pub mod Sending
+pub mod Stopping
+pub mod AgentWriting
+pub mod Media
+pub mod Becoming
+pub mod Beside
+pub mod Stored
+pub mod StoredLaws
+pub mod Hosted
+pub mod HostedLaws
+pub mod LoggedCalls
+pub mod Logged
+pub mod LoggedLaws
 pub mod Causes
 pub mod Calls
 pub mod Acts

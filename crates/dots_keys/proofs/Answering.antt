@@ -2,11 +2,11 @@
 use Rattle.std.proofs.Common.{◌≡◌, ℕ, List, refl, sym, ap, Ok, Err, Result}
 use Rattle.cbor_profile.specs.Spelling.{Spells}
 use Rattle.cbor_profile.specs.Tree.{Tree}
-use Rattle.dots_heads.specs.declared.reject.Reject.{Reject}
-use Rattle.dots_heads.specs.declared.reject.Reject.TheVariants as reject
+use Rattle.dots_keys.specs.declared.reject.Reject.{Reject}
+use Rattle.dots_keys.specs.declared.reject.Reject.TheVariants as reject
 use Rattle.dots_keys.specs.declared.request.Request.{Request}
 use Rattle.dots_keys.specs.Meaning.{IsBody, AnswersBody}
-use Rattle.dots_heads.specs.Results.{◌>>=◌, Fails, Fulfils}
+use Rattle.dots_keys.specs.Results.{◌>>=◌, Fails, Fulfils}
 
 pub fulfils : (e : Reject) {P : Type 0} → P → Fulfils e P
 fulfils (reject.Critical number) p = p

@@ -2,11 +2,11 @@
 use Rattle.std.proofs.Common.{◌≡◌, ◌≢◌, suc, List, [], ◌∷◌, ◌++◌, length, refl, ap, Result, Ok, None, Some}
 use Rattle.cbor_profile.specs.Tree.{count}
 use Rattle.cbor_profile.specs.declared.item.Item.{Item}
-use Rattle.dots_heads.specs.declared.reject.Reject.{Reject}
+use Rattle.dots_keys.specs.declared.reject.Reject.{Reject}
 use Rattle.dots_keys.specs.Configurations.{fraction_in}
 use Rattle.dots_keys.specs.FieldValues.{items_seen}
 use Rattle.dots_keys.specs.Mitigations.{only_item}
-use Rattle.dots_heads.specs.Results.{◌>>=◌}
+use Rattle.dots_keys.specs.Results.{◌>>=◌}
 
 pub count_seen : (xs : List Item) → count (items_seen xs) ≡ length xs
 count_seen [] = refl

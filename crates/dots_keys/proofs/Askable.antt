@@ -9,14 +9,14 @@ use Rattle.cbor_profile.specs.Kind.{items_in}
 use Rattle.cbor_profile.specs.Tree.{Tree, unsigned, negative, byte_string, text, array, mapping, tag, boolean, null, Trees, no_items, item, count}
 use Rattle.coap_message.specs.Message.{CoapMessage}
 use Rattle.lifetime_clock.specs.Lifetime.{IsLifetime}
-use Rattle.dots_heads.specs.declared.operation.Method.{Method}
-use Rattle.dots_heads.specs.declared.operation.Method.TheVariants as method
-use Rattle.dots_heads.specs.declared.reject.Reject.{Reject}
-use Rattle.dots_heads.specs.declared.reject.Reject.TheVariants as reject
+use Rattle.dots_keys.specs.declared.operation.Method.{Method}
+use Rattle.dots_keys.specs.declared.operation.Method.TheVariants as method
+use Rattle.dots_keys.specs.declared.reject.Reject.{Reject}
+use Rattle.dots_keys.specs.declared.reject.Reject.TheVariants as reject
 use Rattle.dots_keys.specs.declared.request.ConfigBody.{ConfigBody}
-use Rattle.dots_heads.specs.declared.request.Content.{Content}
-use Rattle.dots_heads.specs.declared.request.MitigationPath.{MitigationPath}
-use Rattle.dots_heads.specs.declared.request.Observe.{Observe}
+use Rattle.dots_keys.specs.declared.head_request.Content.{Content}
+use Rattle.dots_keys.specs.declared.head_request.MitigationPath.{MitigationPath}
+use Rattle.dots_keys.specs.declared.head_request.Observe.{Observe}
 use Rattle.dots_keys.specs.declared.request.Request.{Request}
 use Rattle.dots_keys.specs.declared.request.Request.TheVariants as request
 use Rattle.dots_keys.specs.declared.scope.Scope.{Scope}
@@ -25,15 +25,15 @@ use Rattle.dots_keys.specs.declared.scope.ScopeKey.TheVariants as scope_key
 use Rattle.dots_keys.specs.Askable.{NamesClient, NamesMitigation, AreFew, IsAskableBody, OffersSome, IsAskable}
 use Rattle.dots_keys.specs.Configurations.{no_config, config_field, some_config, signal_config, configuration_of, offers_nothing}
 use Rattle.dots_keys.specs.Fields.{Field, known, unknown, fields_of, each_field, first_field, ended_with, sole_field}
-use Rattle.dots_heads.specs.Heads.{Head, refuse_critical, refuse_hop_limit, refuse_media, refuse_format, content_of, head_of}
+use Rattle.dots_keys.specs.Heads.{Head, refuse_critical, refuse_hop_limit, refuse_media, refuse_format, content_of, head_of}
 use Rattle.dots_keys.specs.Heartbeats.{heartbeat_of}
 use Rattle.dots_keys.specs.Lifetimes.{HasLifetime}
 use Rattle.dots_keys.specs.Meaning.{AnswersBody, Completes, ReadsAs, put_mitigation_with, put_config_with, put_heartbeat_with}
 use Rattle.dots_keys.specs.Mitigations.{each_item, at_most, array_under, prefix_of, range_of, protocol_of, name_of, lifetime_of, trigger_of, scope_key_of, take_target, scope_field, nothing_asked, has_target, with_lifetime, whole_scope, scope_of, only_item, only_scope, mitigation_of}
-use Rattle.dots_heads.specs.Operations.{Operation, put_mitigation, get_mitigation, delete_mitigation, put_config, get_config, delete_config, put_heartbeat, method_of, is_client_name, client_name, identifier, optional, mandatory, domain_of, mitigation_path, with_mid, mitigation_operation, config_operation, operation_of}
-use Rattle.dots_heads.specs.Options.{first_critical, value_of, values_of}
-use Rattle.dots_heads.specs.Paths.{Resource, mitigation, config, heartbeat, resource_at}
-use Rattle.dots_heads.specs.Results.{◌>>=◌, invalid, missing, UnlessNoMemory}
+use Rattle.dots_keys.specs.Operations.{Operation, put_mitigation, get_mitigation, delete_mitigation, put_config, get_config, delete_config, put_heartbeat, method_of, is_client_name, client_name, identifier, optional, mandatory, domain_of, mitigation_path, with_mid, mitigation_operation, config_operation, operation_of}
+use Rattle.dots_keys.specs.Options.{first_critical, value_of, values_of}
+use Rattle.dots_keys.specs.Paths.{Resource, mitigation, config, heartbeat, resource_at}
+use Rattle.dots_keys.specs.Results.{◌>>=◌, invalid, missing, UnlessNoMemory}
 use Rattle.acl_lists.specs.declared.limits.TheConstants.{MAX_ITEMS, MAX_NAMES}
 
 -- ---- what a reading gives

@@ -1,3 +1,6 @@
+pub mod Identifiers
+pub mod PathLaws
+pub mod WithoutMemory
 pub mod Answering
 pub mod Arrays
 pub mod Ascending

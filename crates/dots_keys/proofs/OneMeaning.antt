@@ -6,16 +6,16 @@ use Rattle.cbor_profile.specs.Breaking.{Breaks, Refuses}
 use Rattle.cbor_profile.specs.Spelling.{Spells}
 use Rattle.cbor_profile.specs.Tree.{Tree}
 use Rattle.coap_message.specs.Message.{CoapMessage}
-use Rattle.dots_heads.specs.declared.reject.Reject.{Reject}
-use Rattle.dots_heads.specs.declared.reject.Reject.TheVariants as reject
-use Rattle.dots_heads.specs.declared.reject.Cause.TheVariants as cause
-use Rattle.dots_heads.specs.declared.request.Content.{Content}
-use Rattle.dots_heads.specs.declared.request.Observe.{Observe}
+use Rattle.dots_keys.specs.declared.reject.Reject.{Reject}
+use Rattle.dots_keys.specs.declared.reject.Reject.TheVariants as reject
+use Rattle.dots_keys.specs.declared.reject.Cause.TheVariants as cause
+use Rattle.dots_keys.specs.declared.head_request.Content.{Content}
+use Rattle.dots_keys.specs.declared.head_request.Observe.{Observe}
 use Rattle.dots_keys.specs.declared.request.Request.{Request}
-use Rattle.dots_heads.specs.Heads.{Head, head_of}
+use Rattle.dots_keys.specs.Heads.{Head, head_of}
 use Rattle.dots_keys.specs.Meaning.{IsBody, AnswersBody, Completes, ReadsAs, Means, put_mitigation_with, put_config_with, put_heartbeat_with}
-use Rattle.dots_heads.specs.Operations.{Operation, put_mitigation, get_mitigation, delete_mitigation, put_config, get_config, delete_config, put_heartbeat}
-use Rattle.dots_heads.specs.Results.{◌>>=◌}
+use Rattle.dots_keys.specs.Operations.{Operation, put_mitigation, get_mitigation, delete_mitigation, put_config, get_config, delete_config, put_heartbeat}
+use Rattle.dots_keys.specs.Results.{◌>>=◌}
 
 -- no spelling is the front of another, and the payload has one fault or a spelled front
 pub record OneReading (payload : List ℕ) : Type 0 where

@@ -6,12 +6,12 @@ use Rattle.std.proofs.lemmas.Result.{IfOk-at_ok}
 use Rattle.cbor_profile.specs.Kind.{items_in}
 use Rattle.cbor_profile.specs.Tree.{Tree, unsigned, negative, byte_string, text, array, mapping, tag, boolean, null}
 use Rattle.coap_message.specs.Message.{CoapMessage}
-use Rattle.dots_heads.specs.declared.reject.Reject.{Reject}
-use Rattle.dots_heads.specs.declared.request.Content.{Content}
-use Rattle.dots_heads.specs.declared.request.Observe.{Observe}
-use Rattle.dots_heads.specs.Heads.{Head}
-use Rattle.dots_heads.specs.Operations.{Operation, put_mitigation, get_mitigation, delete_mitigation, put_config, get_config, delete_config, put_heartbeat}
-use Rattle.dots_heads.specs.Results.{◌>>=◌, invalid, missing}
+use Rattle.dots_keys.specs.declared.reject.Reject.{Reject}
+use Rattle.dots_keys.specs.declared.head_request.Content.{Content}
+use Rattle.dots_keys.specs.declared.head_request.Observe.{Observe}
+use Rattle.dots_keys.specs.Heads.{Head}
+use Rattle.dots_keys.specs.Operations.{Operation, put_mitigation, get_mitigation, delete_mitigation, put_config, get_config, delete_config, put_heartbeat}
+use Rattle.dots_keys.specs.Results.{◌>>=◌, invalid, missing}
 use Rattle.std.specs.Prelude.{ok_or, if◌then◌else◌}
 use Rattle.acl_lists.specs.declared.asked.Asked.{Asked}
 use Rattle.std.proofs.Common.{ℤ}
@@ -28,7 +28,7 @@ use Rattle.dots_keys.specs.Meaning.{AnswersBody, Completes, ReadsAs, put_mitigat
 use Rattle.dots_keys.specs.Mitigations.{array_under, prefix_of, range_of, protocol_of, name_of, lifetime_of, trigger_of, scope_key_of, take_target, scope_field, nothing_asked, has_target, with_lifetime, whole_scope, scope_of, only_item, only_scope, mitigation_of}
 use Rattle.dots_keys.specs.Waiting.{WaitsForClient}
 use Rattle.dots_keys.proofs.Askable.{then_ok, fact_then_ok, sole_ok}
-use Rattle.dots_heads.specs.Results.{UnlessNoMemory}
+use Rattle.dots_keys.specs.Results.{UnlessNoMemory}
 use Rattle.acl_lists.specs.declared.limits.TheConstants.{MAX_ITEMS, MAX_NAMES}
 
 -- a gateway asks for nothing that waits

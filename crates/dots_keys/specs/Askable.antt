@@ -5,12 +5,12 @@ use Rattle.acl_lists.specs.declared.asked.Asked.{Asked}
 use Rattle.lifetime_clock.specs.Lifetime.{IsLifetime}
 use Rattle.dots_keys.specs.declared.request.ConfigBody.{ConfigBody}
 use Rattle.dots_keys.specs.declared.request.MitigationBody.{MitigationBody}
-use Rattle.dots_heads.specs.declared.request.MitigationPath.{MitigationPath}
+use Rattle.dots_keys.specs.declared.head_request.MitigationPath.{MitigationPath}
 use Rattle.dots_keys.specs.declared.request.Request.{Request}
 use Rattle.dots_keys.specs.declared.request.Request.TheVariants as request
 use Rattle.dots_keys.specs.Configurations.{offers_nothing}
 use Rattle.dots_keys.specs.Mitigations.{has_target}
-use Rattle.dots_heads.specs.Operations.{is_client_name}
+use Rattle.dots_keys.specs.Operations.{is_client_name}
 
 -- the client, and the domain that a gateway says, are names without a slash
 pub record NamesClient (path : MitigationPath) : Type 0 where

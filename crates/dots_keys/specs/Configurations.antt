@@ -2,7 +2,7 @@
 use Rattle.std.specs.Prelude.{ℕ, ◌*◌, ◌^◌, Bool, ◌&&◌, ◌==◌, nat_lt, if◌then◌else◌, is_none, Option, Some, None, ok_or, Result, Ok, Err}
 use Rattle.cbor_profile.specs.Tree.{Tree, unsigned, negative, tag, Trees, no_items, item}
 use Rattle.cbor_profile.specs.Kind.{number_in, items_in}
-use Rattle.dots_heads.specs.declared.reject.Reject.{Reject}
+use Rattle.dots_keys.specs.declared.reject.Reject.{Reject}
 use Rattle.dots_keys.specs.declared.request.ConfigBody.{ConfigBody}
 use Rattle.dots_keys.specs.declared.request.Offer.{Offer}
 use Rattle.dots_keys.specs.declared.offer.OfferKey.{OfferKey}
@@ -10,7 +10,7 @@ use Rattle.dots_keys.specs.declared.offer.OfferKey.TheVariants as offer_key
 use Rattle.dots_keys.specs.declared.configuration.ConfigKey.{ConfigKey}
 use Rattle.dots_keys.specs.declared.configuration.ConfigKey.TheVariants as config_key
 use Rattle.dots_keys.specs.Fields.{fields_of, each_field, sole_field}
-use Rattle.dots_heads.specs.Results.{◌>>=◌, invalid, missing}
+use Rattle.dots_keys.specs.Results.{◌>>=◌, invalid, missing}
 
 -- ---- values: {36: n}, or {43: a decimal}
 

@@ -2,11 +2,11 @@
 use Rattle.std.specs.Prelude.{ℕ, ◌<◌, Bool, true, ◌&&◌, ◌==◌, if◌then◌else◌, is_some, List, [], ◌∷◌, Option, Some, None, Result, Ok, Err}
 use Rattle.cbor_profile.specs.Tree.{Tree, Pairs, no_pairs, pair}
 use Rattle.cbor_profile.specs.Kind.{number_in, pairs_in}
-use Rattle.dots_heads.specs.declared.reject.Reject.{Reject}
+use Rattle.dots_keys.specs.declared.reject.Reject.{Reject}
 use Rattle.dots_keys.specs.declared.keys.Role.{Role}
 use Rattle.dots_keys.specs.declared.keys.Role.TheVariants as role
 use Rattle.dots_keys.specs.Keys.{key_role}
-use Rattle.dots_heads.specs.Results.{◌>>=◌, invalid, missing, unknown_key}
+use Rattle.dots_keys.specs.Results.{◌>>=◌, invalid, missing, unknown_key}
 
 -- A key of the table with its value, or a number outside the table.
 pub data Field : Type 0 where

@@ -1,9 +1,9 @@
 -- The body of a heartbeat (RFC 9132, section 4.7): {49: {51: boolean}}.
 use Rattle.std.specs.Prelude.{Bool, Option, Some, None, ok_or, Result}
 use Rattle.cbor_profile.specs.Tree.{Tree, boolean}
-use Rattle.dots_heads.specs.declared.reject.Reject.{Reject}
+use Rattle.dots_keys.specs.declared.reject.Reject.{Reject}
 use Rattle.dots_keys.specs.Fields.{sole_field}
-use Rattle.dots_heads.specs.Results.{invalid}
+use Rattle.dots_keys.specs.Results.{invalid}
 
 abbrev pub boolean_in : Tree → Option Bool
 boolean_in (boolean value) = Some value

@@ -1,3 +1,16 @@
+pub mod Exchanges
+pub mod Replies
+pub mod HeadValues
+pub mod Heads
+pub mod OperationValues
+pub mod Operations
+pub mod Options
+pub mod PathValues
+pub mod Paths
+pub mod RejectText
+pub mod Wordings
+pub mod Results
+pub mod Segments
 pub mod Configurations
 pub mod FieldValues
 pub mod Fields

@@ -5,20 +5,20 @@ use Rattle.cbor_profile.specs.Breaking.{Refuses}
 use Rattle.cbor_profile.specs.Spelling.{Spells}
 use Rattle.cbor_profile.specs.Tree.{Tree}
 use Rattle.coap_message.specs.Message.{CoapMessage}
-use Rattle.dots_heads.specs.declared.reject.Reject.{Reject}
-use Rattle.dots_heads.specs.declared.reject.Reject.TheVariants as reject
-use Rattle.dots_heads.specs.declared.reject.Cause.TheVariants as cause
-use Rattle.dots_heads.specs.declared.request.MitigationPath.{MitigationPath}
+use Rattle.dots_keys.specs.declared.reject.Reject.{Reject}
+use Rattle.dots_keys.specs.declared.reject.Reject.TheVariants as reject
+use Rattle.dots_keys.specs.declared.reject.Cause.TheVariants as cause
+use Rattle.dots_keys.specs.declared.head_request.MitigationPath.{MitigationPath}
 use Rattle.dots_keys.specs.declared.request.Request.{Request}
 use Rattle.dots_keys.specs.declared.request.Request.TheVariants as request
-use Rattle.dots_heads.specs.declared.request.Content.{Content}
-use Rattle.dots_heads.specs.declared.request.Observe.{Observe}
+use Rattle.dots_keys.specs.declared.head_request.Content.{Content}
+use Rattle.dots_keys.specs.declared.head_request.Observe.{Observe}
 use Rattle.dots_keys.specs.Configurations.{configuration_of}
-use Rattle.dots_heads.specs.Heads.{Head, head_of}
+use Rattle.dots_keys.specs.Heads.{Head, head_of}
 use Rattle.dots_keys.specs.Heartbeats.{heartbeat_of}
 use Rattle.dots_keys.specs.Mitigations.{mitigation_of}
-use Rattle.dots_heads.specs.Operations.{Operation, put_mitigation, get_mitigation, delete_mitigation, put_config, get_config, delete_config, put_heartbeat}
-use Rattle.dots_heads.specs.Results.{◌>>=◌}
+use Rattle.dots_keys.specs.Operations.{Operation, put_mitigation, get_mitigation, delete_mitigation, put_config, get_config, delete_config, put_heartbeat}
+use Rattle.dots_keys.specs.Results.{◌>>=◌}
 
 -- The payload as an item of CBOR (RFC 8949), in any spelling, or its first fault.
 abbrev pub IsBody : List ℕ → Result Tree Reject → Type 0

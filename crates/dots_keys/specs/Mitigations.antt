@@ -8,7 +8,7 @@ use Rattle.dots_lists.specs.Name.{is_name}
 use Rattle.ip_scope.specs.Prefix.{PrefixValue}
 use Rattle.ip_scope.specs.PrefixReader.{prefix_in}
 use Rattle.ip_scope.specs.Ports.{Ports}
-use Rattle.dots_heads.specs.declared.reject.Reject.{Reject}
+use Rattle.dots_keys.specs.declared.reject.Reject.{Reject}
 use Rattle.dots_keys.specs.declared.request.MitigationBody.{MitigationBody}
 use Rattle.dots_keys.specs.declared.scope.Scope.{Scope}
 use Rattle.dots_keys.specs.declared.scope.ScopeKey.{ScopeKey}
@@ -17,7 +17,7 @@ use Rattle.dots_keys.specs.declared.ports.RangeKey.{RangeKey}
 use Rattle.dots_keys.specs.declared.ports.RangeKey.TheVariants as range_key
 use Rattle.dots_keys.specs.declared.ports.PortPair.{PortPair}
 use Rattle.dots_keys.specs.Fields.{fields_of, each_field, sole_field}
-use Rattle.dots_heads.specs.Results.{◌>>=◌, invalid, missing}
+use Rattle.dots_keys.specs.Results.{◌>>=◌, invalid, missing}
 
 -- ---- arrays
 

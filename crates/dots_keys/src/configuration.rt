@@ -5,14 +5,14 @@ ghost use Rattle.cbor_profile.specs.ItemTrees.{tree_of};
 ghost use Rattle.dots_keys.specs.Configurations.{config_key_of, config_field, no_config, signal_config, configuration_of};
 ghost use Rattle.dots_keys.specs.Fields.{each_field};
 ghost use Rattle.dots_keys.specs.FieldValues.{fields_left};
-ghost use Rattle.dots_heads.specs.Results.{ReadsInto};
+ghost use Rattle.dots_keys.specs.Results.{ReadsInto};
 
 use crate::fields::Fields;
 use crate::offer::offer_under;
 use crate::refusing::{invalid, missing};
+use crate::reject::Reject;
 use crate::request::{ConfigBody, Offer};
 use cbor_profile::Item;
-use dots_heads::Reject;
 
 /// `signal-config`, `mitigating-config` and `idle-config`.
 const SIGNAL_CONFIG: u8 = 30;

@@ -4,12 +4,12 @@ ghost use Rattle.std.specs.Prelude.{◌≡◌, [], ◌∷◌, ℕ, List, Ok, Err
 ghost use Rattle.cbor_profile.specs.ItemTrees.{tree_of};
 ghost use Rattle.dots_keys.specs.Fields.{Field, known, unknown, fields_of, first_field, refusal_of, all_unsigned};
 ghost use Rattle.dots_keys.specs.FieldValues.{fields_left, pairs_seen};
-ghost use Rattle.dots_heads.specs.Results.{Reads, unknown_key};
+ghost use Rattle.dots_keys.specs.Results.{Reads, unknown_key};
 
 use crate::keys::{Role, key_role};
 use crate::refusing::{invalid, missing, unknown};
+use crate::reject::Reject;
 use cbor_profile::Item;
-use dots_heads::Reject;
 
 /// The fields of a map that are still to be read, in the order of their keys.
 #[derive(Drop)]

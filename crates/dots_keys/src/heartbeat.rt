@@ -7,8 +7,8 @@ ghost use Rattle.dots_keys.specs.Heartbeats.{peer_status, heartbeat_of};
 
 use crate::fields::Fields;
 use crate::refusing::invalid;
+use crate::reject::Reject;
 use cbor_profile::Item;
-use dots_heads::Reject;
 
 /// `heartbeat` and `peer-hb-status`.
 const HEARTBEAT: u8 = 49;

@@ -5,7 +5,7 @@ ghost use Rattle.cbor_profile.specs.Tree.{Pairs, mapping};
 ghost use Rattle.cbor_profile.specs.Valid.{IsSound};
 ghost use Rattle.dots_keys.specs.Fields.{Field, fields_of, Ascend};
 ghost use Rattle.dots_keys.specs.Meaning.{Means};
-ghost use Rattle.dots_heads.specs.declared.reject.Reject.{Reject};
+ghost use Rattle.dots_keys.specs.declared.reject.Reject.{Reject};
 ghost use Rattle.dots_keys.specs.declared.request.Request.{Request};
 
 use cbor_profile::{one_reading, one_spelling};

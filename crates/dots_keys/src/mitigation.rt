@@ -4,14 +4,14 @@ ghost use Rattle.std.specs.Prelude.{◌≡◌, ◌≢◌, [], ◌∷◌, length,
 ghost use Rattle.cbor_profile.specs.ItemTrees.{tree_of};
 ghost use Rattle.dots_keys.specs.Fields.{sole_field};
 ghost use Rattle.dots_keys.specs.Mitigations.{only_scope, mitigation_of};
-ghost use Rattle.dots_heads.specs.Results.{Gives};
+ghost use Rattle.dots_keys.specs.Results.{Gives};
 
 use crate::fields::Fields;
 use crate::refusing::invalid;
+use crate::reject::Reject;
 use crate::request::MitigationBody;
 use crate::scope::scope_of;
 use cbor_profile::Item;
-use dots_heads::Reject;
 use std::alloc::Global;
 
 /// `mitigation-scope` and `scope`.

@@ -7,8 +7,8 @@ ghost use Rattle.cbor_profile.specs.Kind.{items_in};
 
 use crate::fields::Fields;
 use crate::refusing::invalid;
+use crate::reject::Reject;
 use cbor_profile::Item;
-use dots_heads::Reject;
 
 /// `current-value` and `current-value-decimal`.
 const CURRENT_VALUE: u8 = 36;

@@ -5,14 +5,14 @@ ghost use Rattle.cbor_profile.specs.ItemTrees.{tree_of};
 ghost use Rattle.dots_keys.specs.Configurations.{offer_key_of, offer_field, no_offer, offers_nothing, offer_under};
 ghost use Rattle.dots_keys.specs.Fields.{each_field};
 ghost use Rattle.dots_keys.specs.FieldValues.{fields_left};
-ghost use Rattle.dots_heads.specs.Results.{ReadsInto};
+ghost use Rattle.dots_keys.specs.Results.{ReadsInto};
 
 use crate::fields::Fields;
 use crate::numbers::{decimal_under, number_under};
 use crate::refusing::{invalid, missing};
+use crate::reject::Reject;
 use crate::request::Offer;
 use cbor_profile::Item;
-use dots_heads::Reject;
 
 /// `heartbeat-interval`, `missing-hb-allowed`, `max-retransmit`, `ack-timeout`, `ack-random-factor` and `probing-rate`.
 const HEARTBEAT_INTERVAL: u8 = 33;

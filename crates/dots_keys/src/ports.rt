@@ -8,8 +8,8 @@ ghost use Rattle.dots_keys.specs.Mitigations.{range_key_of, port_of, not_below, 
 
 use crate::fields::Fields;
 use crate::refusing::{invalid, missing};
+use crate::reject::Reject;
 use cbor_profile::Item;
-use dots_heads::Reject;
 use ip_scope::PortRange;
 
 /// `lower-port` and `upper-port`.

@@ -3,22 +3,25 @@
 ghost use Rattle.std.specs.Prelude.{◌≡◌, ◌≢◌, ◌/◌, Err, IsOk, IfOk, IfErr};
 ghost use Rattle.cbor_profile.specs.Spelling.{Spells};
 ghost use Rattle.cbor_profile.specs.ItemTrees.{tree_of};
-ghost use Rattle.dots_heads.specs.HeadValues.{head_value};
-ghost use Rattle.dots_heads.specs.Heads.{head_of};
+ghost use Rattle.dots_keys.specs.HeadValues.{head_value};
+ghost use Rattle.dots_keys.specs.Heads.{head_of};
 ghost use Rattle.dots_keys.specs.Askable.{IsAskable};
 ghost use Rattle.dots_keys.specs.Lifetimes.{HasLifetime};
 ghost use Rattle.dots_keys.specs.Waiting.{WaitsForClient};
 ghost use Rattle.dots_keys.specs.Meaning.{IsBody, AnswersBody, ReadsAs, Means, put_mitigation_with, put_config_with, put_heartbeat_with};
-ghost use Rattle.dots_heads.specs.OperationValues.{IsNamed};
-ghost use Rattle.dots_heads.specs.Results.{Fulfils, UnlessNoMemory};
+ghost use Rattle.dots_keys.specs.OperationValues.{IsNamed};
+ghost use Rattle.dots_keys.specs.Results.{Fulfils, UnlessNoMemory};
 
 use crate::configuration::configuration_of;
+use crate::head::{Head, read_head};
+use crate::head_request::MitigationPath;
 use crate::heartbeat::heartbeat_of;
 use crate::mitigation::mitigation_of;
+use crate::operation::Operation;
+use crate::reject::{Cause, Reject};
 use crate::request::Request;
 use cbor_profile::{CborFault, Item, decode};
 use coap_message::Message;
-use dots_heads::{Cause, Head, MitigationPath, Operation, Reject, read_head};
 use std::alloc::Global;
 
 /// What a readable message whose code is that of a request asks (RFC 9132, section 4), or the first refusal that applies, in

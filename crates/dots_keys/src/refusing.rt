@@ -1,9 +1,9 @@
 //! Refusals of a body.
 
 ghost use Rattle.std.specs.Prelude.{◌≡◌};
-ghost use Rattle.dots_heads.specs.Results.{invalid, missing, unknown_key};
+ghost use Rattle.dots_keys.specs.Results.{invalid, missing, unknown_key};
 
-use dots_heads::{Cause, Reject};
+use crate::reject::{Cause, Reject};
 
 /// The key can't stand where it does, or its value can't.
 pub fn invalid(key: u8) -> Reject

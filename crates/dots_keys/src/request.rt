@@ -1,5 +1,5 @@
+use crate::head_request::{Content, MitigationPath, Observe};
 use acl_lists::Asked;
-use dots_heads::{Content, MitigationPath, Observe};
 
 /// What a message asks.
 #[derive(Drop)]

@@ -5,10 +5,11 @@ ghost use Rattle.cbor_profile.specs.ItemTrees.{tree_of};
 ghost use Rattle.dots_keys.specs.Fields.{each_field};
 ghost use Rattle.dots_keys.specs.FieldValues.{fields_left};
 ghost use Rattle.dots_keys.specs.Mitigations.{scope_key_of, scope_field, nothing_asked, whole_scope, has_target, lifetime_of, trigger_of, scope_of};
-ghost use Rattle.dots_heads.specs.Results.{Gives, Stores};
+ghost use Rattle.dots_keys.specs.Results.{Gives, Stores};
 
 use crate::fields::Fields;
 use crate::refusing::{invalid, missing};
+use crate::reject::Reject;
 use crate::request::MitigationBody;
 use crate::targets::{
     ALIAS_NAME, TARGET_FQDN, TARGET_PORT_RANGE, TARGET_PREFIX, TARGET_PROTOCOL, names_of, ports_of,
@@ -16,7 +17,6 @@ use crate::targets::{
 };
 use acl_lists::Asked;
 use cbor_profile::Item;
-use dots_heads::Reject;
 use dots_lists::{Bytes, List};
 use std::alloc::Global;
 

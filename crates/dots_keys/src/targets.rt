@@ -7,13 +7,13 @@ ghost use Rattle.cbor_profile.specs.ItemTrees.{tree_of};
 ghost use Rattle.ip_scope.specs.PrefixReader.{prefix_in};
 ghost use Rattle.dots_keys.specs.FieldValues.{items_seen};
 ghost use Rattle.dots_keys.specs.Mitigations.{at_most, array_under, prefix_of, protocol_of, name_of, range_of};
-ghost use Rattle.dots_heads.specs.Results.{Gives};
+ghost use Rattle.dots_keys.specs.Results.{Gives};
 
 use crate::ports::range_of;
 use crate::refusing::invalid;
+use crate::reject::Reject;
 use acl_lists::{ByteList, MAX_ITEMS, MAX_NAMES, NameList, PortList, PrefixList};
 use cbor_profile::Item;
-use dots_heads::Reject;
 use dots_lists::{Bytes, List, Name};
 use ip_scope::{Prefix, parse_prefix};
 use std::alloc::Global;

@@ -1,1 +1,4 @@
+pub mod Decimals
+pub mod Numbers
+pub mod Splits
 pub mod Names

@@ -1,2 +1,5 @@
+pub mod HexText
+pub mod Lines
+pub mod Numbers
 pub mod Name
 pub mod Steps

@@ -10,7 +10,7 @@ use Rattle.dots_host.specs.declared.act.Act.{Act}
 use Rattle.dots_host.specs.Acts.{took, wire_acts}
 use Rattle.dots_host.specs.Runs.{IsNoEnd, EndsBy}
 use Rattle.dots_load.proofs.Taken.{NoneEnds, handed}
-use Rattle.dots_disk.specs.Hosted.{Hosted, with_event, HandsOut}
+use Rattle.dots_host.specs.Hosted.{Hosted, with_event, HandsOut}
 use Rattle.coap_message.specs.Message.{spelling}
 use Rattle.dots_load.specs.Draws.{next, high, number_after}
 use Rattle.dots_load.specs.Requests.{get_all, delete_one, put_one, prefix_text, scope_body}

@@ -9,8 +9,7 @@ ghost use Rattle.dots_load.specs.Events.{event_by, events_to, load_events};
 use crate::bodies::scope_body;
 use crate::draws::Draws;
 use crate::requests::{delete_one, get_all, put_one};
-use dots_disk::MemoryHost;
-use dots_host::Event;
+use dots_host::{Event, MemoryHost};
 use dots_lists::NoMemory;
 use std::alloc::Global;
 

@@ -5,7 +5,7 @@ ghost use Rattle.dots_host.specs.declared.event.Event.TheVariants as event;
 ghost use Rattle.dots_host.specs.declared.out.OwnedOut.{OwnedOut};
 ghost use Rattle.dots_host.specs.Acts.{wire_acts};
 ghost use Rattle.dots_host.specs.Runs.{EndsBy};
-ghost use Rattle.dots_disk.specs.Hosted.{Hosted, HandsOut};
+ghost use Rattle.dots_host.specs.Hosted.{Hosted, HandsOut};
 ghost use Rattle.dots_load.specs.Datagrams.{EachComing, AreBytes};
 ghost use Rattle.dots_load.specs.Events.{load_events};
 ghost use Rattle.dots_load.specs.Report.{coming_in, created, changed, deleted, content, conflict, other};

@@ -33,7 +33,7 @@ use Rattle.dots_machine.specs.Adding.{AcceptsDatagram, AcceptsFront, SaysFailed,
 use Rattle.dots_machine.proofs.OneAnswer.{one_verdict, says}
 use Rattle.dots_machine.proofs.Hearing.{answer_history, tick_history}
 use Rattle.dots_machine.proofs.Connections.{opens_history}
-use Rattle.dots_machine.proofs.Observing.{told_history}
+use Rattle.dots_machine.proofs.Observing.{notified_history}
 use Rattle.dots_machine.proofs.Fronts.{outs_in, front_history, takes_outs}
 use Rattle.dots_machine.proofs.Handlings.{by_handlings, each_weaker}
 
@@ -166,7 +166,7 @@ module _ (settings : SettingsValue) (conn : ℕ) where
     fronts = fronts_add state x.answered x.rested x.fronts;
     notices = x.notices;
     sends_are = takes_outs settings conn state turns new x;
-    history_is = told_history settings x.rested new x.notices x.notified;
+    history_is = notified_history settings x.rested new x.notices x.notified;
   }
 
 -- ---- of a handling

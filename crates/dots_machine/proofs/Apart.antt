@@ -13,21 +13,21 @@ use Rattle.dots_host.proofs.RunLemmas.{outs_back}
 use Rattle.dots_settings.specs.Settings.{SettingsValue}
 use Rattle.dots_settings.specs.Lookups.{role_of, prefixes_of}
 use Rattle.dots_history.specs.Histories.{alone, held}
-use Rattle.dots_laws.proofs.Alone.{replies_alone}
-use Rattle.dots_heads.specs.declared.request.Content.{Content}
+use Rattle.dots_history.proofs.Alone.{replies_alone}
+use Rattle.dots_keys.specs.declared.head_request.Content.{Content}
 use Rattle.dots_keys.specs.declared.request.Request.{Request}
 use Rattle.dots_keys.specs.declared.request.Request.TheVariants as request
 use Rattle.dots_keys.specs.declared.request.MitigationBody.{MitigationBody}
 use Rattle.conflict_rules.specs.Statuses.{views_in}
 use Rattle.conflict_rules.proofs.Alone.{judged_apart, collides_apart, views_apart}
-use Rattle.coap_replies.specs.declared.exchange.Exchange.{Exchange}
+use Rattle.dots_keys.specs.declared.exchange.Exchange.{Exchange}
 use Rattle.dots_machine.specs.declared.received.Received.TheVariants as received
 use Rattle.dots_machine.specs.declared.client_request.ClientRequest.{ClientRequest}
 use Rattle.dots_machine.specs.declared.mitigation_request.MitigationRequest.{MitigationRequest}
 use Rattle.dots_machine.specs.Verdict.{Verdict}
 use Rattle.dots_machine.specs.declared.verdict.Verdict.TheVariants as verdict
 use Rattle.dots_machine.specs.Domains.{domain_for, config_domain}
-use Rattle.target_rules.specs.Targets.{scope_fault}
+use Rattle.conflict_rules.specs.AskableTargets.{scope_fault}
 use Rattle.dots_machine.specs.MessageRepeats.{Sent, sent_for, unless_repeated}
 use Rattle.dots_machine.specs.Mitigations.{sent_by, request_of, judged, unless_faulty, put_answer, is_taken, delete_by, delete_answer, get_by, get_answer, client_for}
 use Rattle.dots_machine.specs.Observing.{number_of}
@@ -35,16 +35,16 @@ use Rattle.rest_answers.specs.declared.caller.Caller.{Caller}
 use Rattle.rest_answers.specs.Turns.{caller_of}
 use Rattle.dots_machine.specs.Machine.{State, later, DecidesRequest, Rules, Decides, by_silence, by_rules, for_want_of_memory, after, Answers, receiving, Takes, Step, facts_in, hearing, lapsed, watched, Hears, by_message, unreadable, by_stranger, AnswersFront}
 use Rattle.dots_machine.specs.Apart.{SameFor, domain_of, AsksFor, by_datagram, AsksOn, AsksElsewhere, connected_as, StaysApart, elsewhere, decided_alike, piece_elsewhere, answered_alike, without_request, HaveOnePart, lapsed_alike}
-use Rattle.dots_laws.specs.Held.{config_of}
+use Rattle.dots_history.specs.Held.{config_of}
 use Rattle.dots_keys.specs.declared.request.ConfigBody.{ConfigBody}
 use Rattle.session_core.specs.Negotiating.{negotiated}
-use Rattle.dots_machine.specs.Sessions.{sid_of, is_held}
+use Rattle.dots_machine.specs.ConfiguredPeers.{sid_of, is_held}
 use Rattle.dots_machine.specs.Facts.{Facts, stands_as, facts_of}
 use Rattle.dots_machine.specs.Deciding.{in_domain, with_mid, put_in, put_for, delete_in, delete_for, get_for, config_answer, put_config_for, clear_answer, delete_config_for, config_view, get_config_for, answer_to, asks_for}
 use Rattle.dots_machine.proofs.Verdicts.{request_valued, request_there, ruled}
 use Rattle.dots_machine.proofs.Hearing.{answer_history, answer_time, tick_history, tick_time}
 use Rattle.dots_machine.proofs.Connections.{opens_history}
-use Rattle.dots_machine.proofs.Observing.{told_history, told_time}
+use Rattle.dots_machine.proofs.Observing.{notified_history, notified_time}
 use Rattle.dots_machine.proofs.Fronts.{takes_outs}
 use Rattle.dots_machine.proofs.FrontsApart.{on_received, elsewhere_received, fronts_elsewhere, fronts_alike}
 use Rattle.dots_machine.proofs.Outcomes.{AcceptsWell, puts_accept, deletes_accept, gets_accept, put_configs_accept, delete_configs_accept, get_configs_accept}
@@ -52,7 +52,7 @@ use Rattle.dots_machine.specs.Parts.{Part, is_domain, is_client_in, heard_in, pa
 use Rattle.dots_settings.specs.declared.peer.Role.{Role}
 use Rattle.dots_settings.specs.declared.peer.Role.TheVariants as role
 use Rattle.dots_machine.specs.Signals.{domain_of_client, own_domain, last_heard}
-use Rattle.dots_machine.proofs.Parting.{own_or_not, is_own_domain, part_is, hearing_own, hearing_other, lapsed_part, told_part, tick_part}
+use Rattle.dots_machine.proofs.Parting.{own_or_not, is_own_domain, part_is, hearing_own, hearing_other, lapsed_part, notified_part, tick_part}
 
 -- whatever is carried out on both leaves the domain the same
 same_after : (domain : ℕ) (one other : State) → SameFor domain one other → (v : Verdict) → SameFor domain (after v one) (after v other)
@@ -326,11 +326,11 @@ module _ (settings : SettingsValue) where
         left_same = same_after domain a.met left alike.2.same a.decided
 
         time_is : new.time ≡ (after a.decided a.met).time
-        time_is = told_time settings (watched settings peer a.asked a.decided a.replies (after a.decided a.met)) new a.notices a.notified
+        time_is = notified_time settings (watched settings peer a.asked a.decided a.replies (after a.decided a.met)) new a.notices a.notified
 
         heard_is : heard_in settings domain new ≡ heard_in settings domain (after a.decided left)
         heard_is =
-            ap (λ (part : Part). part.heard) (told_part settings domain (watched settings peer a.asked a.decided a.replies (after a.decided a.met)) new a.notices a.notified)
+            ap (λ (part : Part). part.heard) (notified_part settings domain (watched settings peer a.asked a.decided a.replies (after a.decided a.met)) new a.notices a.notified)
             ∙ heard_of domain (after a.decided a.met) a.met (after_contacts a.decided a.met) ∙ alike.2.heard
             ∙ sym (heard_of domain (after a.decided left) left (after_contacts a.decided left))
 
@@ -360,7 +360,7 @@ module _ (settings : SettingsValue) where
         x = step.2
 
         history_is : new.history ≡ x.rested.history
-        history_is = told_history settings x.rested new x.notices x.notified
+        history_is = notified_history settings x.rested new x.notices x.notified
 
         Apartly : Type 0
         Apartly = StaysApart settings domain old other (event.Piece conn piece) at (outs_of owed) new
@@ -376,8 +376,8 @@ module _ (settings : SettingsValue) where
             (record { time = moved.same.time; entries = moved.same.entries }) in
             answered_alike conn piece x.answered a.0 x.rested a.1 x.notices refl asks x.fronts a.2 a.3 (ap outs_of step.1 ∙ takes_outs settings conn state step.0 new x)
             (record {
-              same = record { time = told_time settings x.rested new x.notices x.notified ∙ a.4.time; entries = ap (alone domain) history_is ∙ a.4.entries };
-              heard = ap (λ (part : Part). part.heard) (told_part settings domain x.rested new x.notices x.notified)
+              same = record { time = notified_time settings x.rested new x.notices x.notified ∙ a.4.time; entries = ap (alone domain) history_is ∙ a.4.entries };
+              heard = ap (λ (part : Part). part.heard) (notified_part settings domain x.rested new x.notices x.notified)
                   ∙ heard_of domain x.rested (later old at) (fronts_contacts conn state x.answered x.rested x.fronts) ∙ moved.heard
                   ∙ sym (heard_of domain a.1 (later other at) (fronts_contacts conn (receiving conn piece (later (connected_as old other) at)) a.0 a.1 a.2));
             })

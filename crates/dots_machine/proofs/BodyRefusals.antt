@@ -5,12 +5,12 @@ use Rattle.cbor_profile.specs.Tree.{Tree, unsigned, negative, byte_string, text,
 use Rattle.cbor_profile.specs.Kind.{number_in, text_in, items_in, pairs_in}
 use Rattle.acl_lists.specs.declared.asked.Asked.{Asked}
 use Rattle.acl_lists.specs.declared.limits.TheConstants.{MAX_ITEMS, MAX_NAMES}
-use Rattle.dots_heads.specs.declared.reject.Reject.{Reject}
-use Rattle.dots_heads.specs.declared.reject.Reject.TheVariants as reject
-use Rattle.dots_heads.specs.declared.request.Content.{Content}
-use Rattle.dots_heads.specs.declared.request.Observe.{Observe}
-use Rattle.dots_heads.specs.Operations.{Operation, put_mitigation, get_mitigation, delete_mitigation, put_config, get_config, delete_config, put_heartbeat}
-use Rattle.dots_heads.specs.Results.{◌>>=◌, invalid}
+use Rattle.dots_keys.specs.declared.reject.Reject.{Reject}
+use Rattle.dots_keys.specs.declared.reject.Reject.TheVariants as reject
+use Rattle.dots_keys.specs.declared.head_request.Content.{Content}
+use Rattle.dots_keys.specs.declared.head_request.Observe.{Observe}
+use Rattle.dots_keys.specs.Operations.{Operation, put_mitigation, get_mitigation, delete_mitigation, put_config, get_config, delete_config, put_heartbeat}
+use Rattle.dots_keys.specs.Results.{◌>>=◌, invalid}
 use Rattle.dots_keys.specs.declared.request.Request.{Request}
 use Rattle.dots_keys.specs.declared.request.Offer.{Offer}
 use Rattle.dots_keys.specs.declared.request.ConfigBody.{ConfigBody}

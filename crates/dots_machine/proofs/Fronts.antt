@@ -5,10 +5,10 @@ use Rattle.dots_host.specs.Runs.{Turn, Chain, owed_in, each_telling, outs_of}
 use Rattle.dots_host.proofs.RunLemmas.{outs_back}
 use Rattle.dots_settings.specs.Settings.{SettingsValue}
 use Rattle.dots_history.specs.declared.entry.Entry.{Entry}
-use Rattle.dots_notices.specs.Notifying.{Apart}
+use Rattle.session_core.specs.Notifying.{Apart}
 use Rattle.rest_answers.specs.Turns.{entries_of}
 use Rattle.dots_machine.specs.Machine.{State, AnswersFront, Takes}
-use Rattle.dots_machine.proofs.Observing.{told_history, told_time, told_apart}
+use Rattle.dots_machine.proofs.Observing.{notified_history, notified_time, notified_apart}
 
 -- ---- the sends of turns
 
@@ -78,13 +78,13 @@ module _ (settings : SettingsValue) (conn : ℕ) where
     pub takes_grows : (extra : List Entry) × (new.history ≡ state.history ++ extra)
     takes_grows =
         let grown = fronts_grow state x.answered x.rested x.fronts in
-        (grown.0, told_history settings x.rested new x.notices x.notified ∙ grown.1)
+        (grown.0, notified_history settings x.rested new x.notices x.notified ∙ grown.1)
 
     pub takes_time : new.time ≡ state.time
-    takes_time = told_time settings x.rested new x.notices x.notified ∙ fronts_time state x.answered x.rested x.fronts
+    takes_time = notified_time settings x.rested new x.notices x.notified ∙ fronts_time state x.answered x.rested x.fronts
 
     pub takes_apart : Apart state.observers → Apart new.observers
-    takes_apart apart = told_apart settings x.rested new x.notices (subst Apart (sym (fronts_observers state x.answered x.rested x.fronts)) apart) x.notified
+    takes_apart apart = notified_apart settings x.rested new x.notices (subst Apart (sym (fronts_observers state x.answered x.rested x.fronts)) apart) x.notified
 
     pub takes_outs : outs_in turns ≡ outs_in x.answered ++ x.notices
     takes_outs = ap outs_in x.turns_are ∙ outs_last x.answered (record { sends = x.notices; left = new })

@@ -9,12 +9,12 @@ use Rattle.dots_history.specs.declared.entry.Entry.{Entry}
 use Rattle.coap_observe.specs.Observed.{ObservedValue}
 use Rattle.coap_observe.specs.Seen.{Lists}
 use Rattle.session_core.specs.declared.contact.PeerContact.{PeerContact}
-use Rattle.dots_notices.specs.Notifying.{Bodies, Notifies, Apart}
+use Rattle.session_core.specs.Notifying.{Bodies, Notifies, Apart}
 use Rattle.stream_table.specs.Lines.{PeerLines}
 use Rattle.rest_answers.proofs.Turning.{turn_begins, first_send_fixes}
 use Rattle.dots_machine.specs.Observing.{bodies_at}
 use Rattle.dots_machine.specs.Machine.{State, seen_in, Notified, AnswersFront, Takes}
-use Rattle.dots_machine.proofs.Observing.{told_once}
+use Rattle.dots_machine.proofs.Observing.{notified_once}
 use Rattle.dots_machine.proofs.Fronts.{outs_in, outs_first, fronts_observers, takes_outs}
 
 -- ---- what goes to a connection, and what doesn't
@@ -118,7 +118,7 @@ module _ (settings : SettingsValue) (conn : ℕ) where
 
     same_left : new ≡ last
     same_left =
-        told_once settings y.rested new last y.notices (subst Apart (sym (fronts_observers settings conn state y.answered y.rested y.fronts)) apart)
+        notified_once settings y.rested new last y.notices (subst Apart (sym (fronts_observers settings conn state y.answered y.rested y.fronts)) apart)
         (subst (λ notices. Notified settings y.rested notices new) one.2 (subst (λ from. Notified settings from x.notices new) one.1 x.notified)) y.notified
 
     pub takes_once : (turns ≡ others) × (new ≡ last)

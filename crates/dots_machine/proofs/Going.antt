@@ -1,7 +1,7 @@
 -- A run goes on from what a crash of another left.
 use Rattle.std.proofs.Common.{ℕ, ◌≤◌, List, length, take, Option, subst}
 use Rattle.dots_host.specs.Acts.{Timed}
-use Rattle.dots_disk.specs.Media.{Media}
+use Rattle.dots_host.specs.Media.{Media}
 use Rattle.slot_store.specs.Gates.{Sees}
 use Rattle.slot_store.specs.Layout.{needed_of}
 use Rattle.slot_journal.specs.DiskEntries.{HasEntries}

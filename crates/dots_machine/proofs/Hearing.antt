@@ -5,15 +5,15 @@ use Rattle.coap_message.proofs.Faults.{breaks_no_message}
 use Rattle.dots_settings.specs.Settings.{SettingsValue}
 use Rattle.dots_settings.specs.Lookups.{role_of}
 use Rattle.dots_keys.specs.declared.request.Request.{Request}
-use Rattle.coap_replies.specs.declared.exchange.Exchange.{Exchange}
+use Rattle.dots_keys.specs.declared.exchange.Exchange.{Exchange}
 use Rattle.dots_machine.specs.declared.received.Received.TheVariants as received
 use Rattle.dots_machine.specs.Requests.{IsReceived, unread, asks_nothing, meant}
 use Rattle.dots_machine.specs.Verdict.{Verdict}
 use Rattle.dots_machine.specs.declared.verdict.Verdict.TheVariants as verdict
 use Rattle.dots_machine.specs.Domains.{is_stranger}
 use Rattle.dots_host.specs.declared.out.OwnedOut.{OwnedOut}
-use Rattle.dots_notices.specs.Notifying.{Apart}
-use Rattle.dots_machine.proofs.Observing.{told_history, told_time, told_apart, watched_apart}
+use Rattle.session_core.specs.Notifying.{Apart}
+use Rattle.dots_machine.proofs.Observing.{notified_history, notified_time, notified_apart, watched_apart}
 use Rattle.dots_machine.specs.Signals.{back_of}
 use Rattle.dots_machine.specs.Machine.{State, watched, Answers, Ticks, lapsed, hearing, Hears, by_message, unreadable, by_stranger, after}
 
@@ -106,10 +106,10 @@ module _ (settings : SettingsValue) (state : State) (peer : ℕ) (datagram : Lis
   left = watched settings peer a.asked a.decided a.replies (after a.decided a.met)
 
   pub answer_history : new.history ≡ (after a.decided a.met).history
-  answer_history = told_history settings left new a.notices a.notified
+  answer_history = notified_history settings left new a.notices a.notified
 
   pub answer_time : new.time ≡ (after a.decided state).time
-  answer_time = told_time settings left new a.notices a.notified ∙ same_time_after a.decided a.met state (hears_time settings peer datagram state a.met a.hears)
+  answer_time = notified_time settings left new a.notices a.notified ∙ same_time_after a.decided a.met state (hears_time settings peer datagram state a.met a.hears)
 
   pub left_apart : Apart state.observers → Apart left.observers
   left_apart apart =
@@ -119,10 +119,10 @@ module _ (settings : SettingsValue) (state : State) (peer : ℕ) (datagram : Lis
 -- ---- what a tick leaves
 module _ (settings : SettingsValue) (state : State) (sends : List OwnedOut) (new : State) (t : Ticks settings state sends new) where
   pub tick_history : new.history ≡ (lapsed settings state).history
-  tick_history = ap (λ (s : State). s.history) t.beaten.1 ∙ told_history settings (lapsed settings state) t.told t.notices t.notified
+  tick_history = ap (λ (s : State). s.history) t.beaten.1 ∙ notified_history settings (lapsed settings state) t.between t.notices t.notified
 
   pub tick_time : new.time ≡ state.time
-  tick_time = ap (λ (s : State). s.time) t.beaten.1 ∙ told_time settings (lapsed settings state) t.told t.notices t.notified
+  tick_time = ap (λ (s : State). s.time) t.beaten.1 ∙ notified_time settings (lapsed settings state) t.between t.notices t.notified
 
   pub tick_apart : Apart state.observers → Apart new.observers
-  tick_apart apart = subst Apart (sym (ap (λ (s : State). s.observers) t.beaten.1)) (told_apart settings (lapsed settings state) t.told t.notices apart t.notified)
+  tick_apart apart = subst Apart (sym (ap (λ (s : State). s.observers) t.beaten.1)) (notified_apart settings (lapsed settings state) t.between t.notices apart t.notified)

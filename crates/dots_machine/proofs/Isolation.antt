@@ -26,9 +26,9 @@ use Rattle.rest_answers.specs.Replies.{unavailable}
 use Rattle.rest_answers.specs.Turns.{RestFront, caller_of, IsFront, is_waiting, reply_in, closing, sends_of as http_sends, entries_in, entries_of as http_entries, HttpTurn}
 use Rattle.dots_keys.specs.declared.request.Request.{Request}
 use Rattle.dots_keys.specs.declared.request.Request.TheVariants as request
-use Rattle.coap_replies.specs.declared.exchange.Exchange.{Exchange}
-use Rattle.coap_replies.specs.declared.dismissal.Dismissal.{Dismissal}
-use Rattle.coap_replies.specs.declared.dismissal.Dismissal.TheVariants as dismissal
+use Rattle.dots_keys.specs.declared.exchange.Exchange.{Exchange}
+use Rattle.dots_keys.specs.declared.dismissal.Dismissal.{Dismissal}
+use Rattle.dots_keys.specs.declared.dismissal.Dismissal.TheVariants as dismissal
 use Rattle.dots_machine.specs.Machine as machine
 use Rattle.dots_machine.specs.Isolation as isolation
 use Rattle.dots_machine.specs.declared.received.Received.{Received}
@@ -48,14 +48,14 @@ use Rattle.dots_machine.proofs.Verdicts.{request_valued, request_there}
 use Rattle.dots_machine.specs.Observing.{number_of}
 use Rattle.dots_machine.proofs.Hearing.{answer_history, answer_time, tick_history, after_time, tick_time}
 use Rattle.dots_machine.proofs.Connections.{opens_history}
-use Rattle.dots_machine.proofs.Observing.{told_history, told_time}
+use Rattle.dots_machine.proofs.Observing.{notified_history, notified_time}
 use Rattle.dots_machine.proofs.Apart.{untouched, Elsewhere, asked_apart, heard_of, after_contacts, fronts_contacts}
 use Rattle.dots_machine.proofs.Fronts.{takes_outs}
 use Rattle.dots_machine.proofs.FrontsApart.{front_elsewhere, front_alike}
 use Rattle.dots_machine.proofs.Handlings.{by_handlings}
 use Rattle.dots_machine.specs.Signals.{domain_of_client, own_domain, LastHeard}
 use Rattle.dots_machine.specs.Parts.{Part, is_domain, heard_in, part_of, part_heard, part_lapsed, part_restarted}
-use Rattle.dots_machine.proofs.Parting.{alone_twice, own_or_not, is_own_domain, hearing_own, hearing_other, told_part, tick_part}
+use Rattle.dots_machine.proofs.Parting.{alone_twice, own_or_not, is_own_domain, hearing_own, hearing_other, notified_part, tick_part}
 use Rattle.std.proofs.lemmas.Option.{none-some}
 
 -- ---- small steps
@@ -480,7 +480,7 @@ module _ (settings : SettingsValue) (domain : ℕ) (old : State) (handling : Han
           by_decision settings domain a.met handling new peer datagram is a.replies a.notices
           (sym sent ∙ ap outs_of step.1 ∙ outs_back new step.0 ∙ a.sends_are) a.decided (number_of settings a.asked a.met.observers) a.replies_are
           (answer_history settings now peer datagram step.0 new a)
-          (told_time settings left new a.notices a.notified)
+          (notified_time settings left new a.notices a.notified)
           a.decides
 
       time_is : new.time ≡ now.time
@@ -488,7 +488,7 @@ module _ (settings : SettingsValue) (domain : ℕ) (old : State) (handling : Han
 
       heard_is : heard_in settings domain new ≡ heard_in settings domain a.met
       heard_is =
-          ap (λ (part : Part). part.heard) (told_part settings domain left new a.notices a.notified)
+          ap (λ (part : Part). part.heard) (notified_part settings domain left new a.notices a.notified)
           ∙ heard_of settings domain (after a.decided a.met) a.met (after_contacts settings a.decided a.met)
 
       Heard : State → Type 0
@@ -545,9 +545,9 @@ module _ (settings : SettingsValue) (domain : ℕ) (old : State) (handling : Han
           sends_are = sym sent ∙ ap outs_of step.1 ∙ takes_outs settings conn (receiving conn piece now) step.0 new x;
         },
         requests_behind old all.0
-            (ap (λ (part : Part). part.heard) (told_part settings domain x.rested new x.notices x.notified)
+            (ap (λ (part : Part). part.heard) (notified_part settings domain x.rested new x.notices x.notified)
             ∙ heard_of settings domain x.rested old (fronts_contacts settings conn (receiving conn piece now) x.answered x.rested x.fronts))
-            (subst (MakeEntries settings domain (alone domain old.history) all.0) (sym (ap (alone domain) (told_history settings x.rested new x.notices x.notified))) all.2),
+            (subst (MakeEntries settings domain (alone domain old.history) all.0) (sym (ap (alone domain) (notified_history settings x.rested new x.notices x.notified))) all.2),
       )
 
   by_event : (what : Event) (owed : List (State × OwnedOut)) → handling.what ≡ what → outs_of owed ≡ handling.sends → Step settings old what handling.at owed new → IsolatedIn what

@@ -13,7 +13,7 @@ use Rattle.dots_history.specs.declared.put.Put.{Put}
 use Rattle.dots_history.specs.declared.put.Target.{Target}
 use Rattle.dots_history.specs.declared.change.Change.TheVariants as change
 use Rattle.dots_history.specs.Entries.{same_client, some_prefix, targets_meet, share_alias, overlaps, replaces, ends, same_flag}
-use Rattle.dots_laws.proofs.Members.{In, any_of}
+use Rattle.dots_history.proofs.Members.{In, any_of}
 use Rattle.conflict_rules.specs.Asking.{same_prefix, same_ports, all_among, same_set, asks_the_same, would_refresh}
 use Rattle.conflict_rules.specs.ByOverlap.{resolved, rivals}
 use Rattle.conflict_rules.proofs.LivePlaces.{in_any}

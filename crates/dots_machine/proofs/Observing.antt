@@ -13,20 +13,20 @@ use Rattle.session_core.specs.declared.contact.Beat.{Beat}
 use Rattle.session_core.specs.declared.contact.PeerContact.{PeerContact}
 use Rattle.session_core.specs.Contacts.{numbered}
 use Rattle.session_core.specs.Beating.{Beating, due_beat}
-use Rattle.dots_notices.specs.Beats.{beat_sent, beats}
-use Rattle.dots_notices.specs.Notices.{content_notice, gone_notice}
-use Rattle.dots_notices.specs.Notifying.{Bodies, is_gone, notice, Notifies, Apart}
-use Rattle.dots_notices.proofs.Fixing.{fixed}
-use Rattle.dots_notices.proofs.Parting.{apart_entered, apart_filtered, apart_notified}
+use Rattle.session_core.specs.Beats.{beat_sent, beats}
+use Rattle.session_core.specs.Notices.{content_notice, gone_notice}
+use Rattle.session_core.specs.Notifying.{Bodies, is_gone, notice, Notifies, Apart}
+use Rattle.session_core.proofs.Fixing.{fixed}
+use Rattle.session_core.proofs.Parting.{apart_entered, apart_filtered, apart_notified}
 use Rattle.dots_settings.specs.Settings.{SettingsValue}
 use Rattle.dots_settings.specs.Lookups.{role_of}
-use Rattle.dots_heads.specs.declared.reject.Reject.{Reject}
-use Rattle.dots_heads.specs.declared.request.Content.{Content}
-use Rattle.dots_heads.specs.declared.request.MitigationPath.{MitigationPath}
-use Rattle.dots_heads.specs.declared.request.Observe.{Observe}
-use Rattle.dots_heads.specs.declared.request.Observe.TheVariants as observe
-use Rattle.dots_heads.specs.Heads.{Head, head_of}
-use Rattle.dots_heads.specs.Operations.{Operation, put_mitigation, get_mitigation, delete_mitigation, put_config, get_config, delete_config, put_heartbeat}
+use Rattle.dots_keys.specs.declared.reject.Reject.{Reject}
+use Rattle.dots_keys.specs.declared.head_request.Content.{Content}
+use Rattle.dots_keys.specs.declared.head_request.MitigationPath.{MitigationPath}
+use Rattle.dots_keys.specs.declared.head_request.Observe.{Observe}
+use Rattle.dots_keys.specs.declared.head_request.Observe.TheVariants as observe
+use Rattle.dots_keys.specs.Heads.{Head, head_of}
+use Rattle.dots_keys.specs.Operations.{Operation, put_mitigation, get_mitigation, delete_mitigation, put_config, get_config, delete_config, put_heartbeat}
 use Rattle.dots_keys.specs.declared.request.Request.{Request}
 use Rattle.dots_keys.specs.declared.request.Request.TheVariants as request
 use Rattle.dots_keys.specs.Meaning.{IsBody, AnswersBody, Completes, Means, put_mitigation_with, put_config_with, put_heartbeat_with}
@@ -34,11 +34,11 @@ use Rattle.dots_keys.specs.Meaning as meaning
 use Rattle.dots_keys.specs.Mitigations.{mitigation_of}
 use Rattle.dots_keys.specs.Configurations.{configuration_of}
 use Rattle.dots_keys.specs.Heartbeats.{heartbeat_of}
-use Rattle.dots_heads.specs.Results.{◌>>=◌}
+use Rattle.dots_keys.specs.Results.{◌>>=◌}
 use Rattle.cbor_profile.specs.Tree.{Tree}
-use Rattle.coap_replies.specs.declared.dismissal.Dismissal.{Dismissal}
-use Rattle.coap_replies.specs.declared.dismissal.Dismissal.TheVariants as dismissal
-use Rattle.coap_replies.specs.declared.exchange.Exchange.{Exchange}
+use Rattle.dots_keys.specs.declared.dismissal.Dismissal.{Dismissal}
+use Rattle.dots_keys.specs.declared.dismissal.Dismissal.TheVariants as dismissal
+use Rattle.dots_keys.specs.declared.exchange.Exchange.{Exchange}
 use Rattle.dots_machine.specs.declared.received.Received.{Received}
 use Rattle.dots_machine.specs.declared.received.Received.TheVariants as received
 use Rattle.dots_machine.specs.declared.watching.Watching.{Watching}
@@ -47,7 +47,7 @@ use Rattle.dots_machine.specs.Verdict.{Verdict}
 use Rattle.dots_machine.specs.declared.verdict.Verdict.TheVariants as verdict
 use Rattle.dots_machine.specs.Replies.{unavailable}
 use Rattle.dots_machine.specs.Domains.{is_gateway, is_stranger, domain_for}
-use Rattle.coap_replies.specs.Exchanges.{exchange_in}
+use Rattle.dots_keys.specs.Exchanges.{exchange_in}
 use Rattle.dots_machine.specs.Requests.{received_as, IsReceived, unread, asks_nothing, meant}
 use Rattle.dots_machine.specs.Observing.{asked_in, in_known, asked_of, asked_by, unless_dismissed, watching_in, Watches, by_message, unreadable, by_stranger, bodies_at, watching_of, code_of, is_retrieved, is_unavailable, observing}
 use Rattle.dots_machine.specs.Machine.{State, seen_in, watched, Notified}
@@ -173,24 +173,24 @@ module _ (settings : SettingsValue) (peer : ℕ) (datagram : List ℕ) where
 
 -- ---- what notifications leave
 module _ (settings : SettingsValue) where
-  pub told_history : (state new : State) (sends : List OwnedOut) → Notified settings state sends new → new.history ≡ state.history
-  told_history state new sends n = ap (λ (s : State). s.history) n.3
+  pub notified_history : (state new : State) (sends : List OwnedOut) → Notified settings state sends new → new.history ≡ state.history
+  notified_history state new sends n = ap (λ (s : State). s.history) n.3
 
-  pub told_time : (state new : State) (sends : List OwnedOut) → Notified settings state sends new → new.time ≡ state.time
-  told_time state new sends n = ap (λ (s : State). s.time) n.3
+  pub notified_time : (state new : State) (sends : List OwnedOut) → Notified settings state sends new → new.time ≡ state.time
+  notified_time state new sends n = ap (λ (s : State). s.time) n.3
 
-  pub told_apart : (state new : State) (sends : List OwnedOut) → Apart state.observers → Notified settings state sends new → Apart new.observers
-  told_apart state new sends apart n =
+  pub notified_apart : (state new : State) (sends : List OwnedOut) → Apart state.observers → Notified settings state sends new → Apart new.observers
+  notified_apart state new sends apart n =
       subst (λ (s : State). Apart s.observers) (sym n.3)
       (apart_notified (seen_in settings state) (bodies_at settings state.time state.history) state.observers n.0 state.contacts n.1 sends apart n.2)
 
-  abbrev with_told : State → List ObservedValue → List PeerContact → State
-  with_told state observers contacts = record state { observers = observers; contacts = contacts }
+  abbrev after_notified : State → List ObservedValue → List PeerContact → State
+  after_notified state observers contacts = record state { observers = observers; contacts = contacts }
 
-  pub told_once : (state new other : State) (sends : List OwnedOut) → Apart state.observers → Notified settings state sends new → Notified settings state sends other → new ≡ other
-  told_once state new other sends apart n m =
+  pub notified_once : (state new other : State) (sends : List OwnedOut) → Apart state.observers → Notified settings state sends new → Notified settings state sends other → new ≡ other
+  notified_once state new other sends apart n m =
       let same = fixed (seen_in settings state) (bodies_at settings state.time state.history) state.observers n.0 m.0 state.contacts n.1 m.1 sends apart n.2 m.2 in
-      n.3 ∙ ap (λ observers. with_told state observers n.1) same.0 ∙ ap (λ contacts. with_told state m.0 contacts) same.1 ∙ sym m.3
+      n.3 ∙ ap (λ observers. after_notified state observers n.1) same.0 ∙ ap (λ contacts. after_notified state m.0 contacts) same.1 ∙ sym m.3
 
   module _ (lists : Lists) (peer : ℕ) (decided : Verdict) (replies : List OwnedOut) (observed : List ObservedValue) (apart : Apart observed) where
     apart_so : (asked : Watching) → Apart (observing settings lists peer asked decided replies observed)

@@ -6,19 +6,19 @@ use Rattle.cbor_profile.proofs.WholeReading.{same_reading}
 use Rattle.coap_message.specs.Message.{CoapMessage, IsMessage, spelling}
 use Rattle.coap_message.proofs.Whole.{one_message}
 use Rattle.coap_message.proofs.Faults.{breaks_no_message}
-use Rattle.dots_heads.specs.declared.reject.Reject.{Reject}
+use Rattle.dots_keys.specs.declared.reject.Reject.{Reject}
 use Rattle.dots_keys.specs.declared.request.Request.{Request}
-use Rattle.dots_heads.specs.declared.request.Content.{Content}
-use Rattle.dots_heads.specs.declared.request.Observe.{Observe}
-use Rattle.dots_heads.specs.Heads.{Head, head_of}
+use Rattle.dots_keys.specs.declared.head_request.Content.{Content}
+use Rattle.dots_keys.specs.declared.head_request.Observe.{Observe}
+use Rattle.dots_keys.specs.Heads.{Head, head_of}
 use Rattle.dots_keys.specs.Meaning.{IsBody, AnswersBody, Completes, Means, put_mitigation_with, put_config_with, put_heartbeat_with}
 use Rattle.dots_keys.specs.Meaning as meaning
-use Rattle.dots_heads.specs.Operations.{Operation, put_mitigation, get_mitigation, delete_mitigation, put_config, get_config, delete_config, put_heartbeat}
-use Rattle.dots_heads.specs.Results.{◌>>=◌}
+use Rattle.dots_keys.specs.Operations.{Operation, put_mitigation, get_mitigation, delete_mitigation, put_config, get_config, delete_config, put_heartbeat}
+use Rattle.dots_keys.specs.Results.{◌>>=◌}
 use Rattle.dots_keys.proofs.OneMeaning.{OneReading, means_once}
 use Rattle.dots_machine.specs.declared.received.Received.{Received}
 use Rattle.dots_machine.specs.declared.received.Received.TheVariants as received
-use Rattle.coap_replies.specs.Exchanges.{exchange_in, dismissed}
+use Rattle.dots_keys.specs.Exchanges.{exchange_in, dismissed}
 use Rattle.dots_machine.specs.Requests.{received_as, IsReceived, unread, asks_nothing, meant}
 
 abbrev result : Result Request Reject → Result Request Reject

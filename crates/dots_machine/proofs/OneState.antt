@@ -11,14 +11,14 @@ use Rattle.dots_host.proofs.RunLemmas.{one_run, one_turn}
 use Rattle.dots_settings.specs.Settings.{SettingsValue}
 use Rattle.dots_settings.specs.Lookups.{role_of}
 use Rattle.coap_observe.specs.Observed.{ObservedValue}
-use Rattle.dots_notices.specs.Beats.{after_beats}
-use Rattle.dots_notices.specs.Notifying.{Apart}
+use Rattle.session_core.specs.Beats.{after_beats}
+use Rattle.session_core.specs.Notifying.{Apart}
 use Rattle.dots_machine.specs.declared.watching.Watching.{Watching}
 use Rattle.dots_machine.specs.Observing.{bodies_at, code_of, is_retrieved, number_of}
 use Rattle.dots_machine.specs.Verdict.{Verdict}
 use Rattle.dots_machine.specs.declared.verdict.Verdict.TheVariants as verdict
 use Rattle.dots_machine.specs.Domains.{is_gateway}
-use Rattle.coap_replies.specs.Exchanges.{exchange_in}
+use Rattle.dots_keys.specs.Exchanges.{exchange_in}
 use Rattle.dots_machine.specs.Replies.{unavailable}
 use Rattle.dots_machine.specs.Machine.{State, later, Decides, by_silence, by_rules, for_want_of_memory, sends_of, after, seen_in, watched, Notified, Answers, Ticks, lapsed, beating, Opens, receiving, Step, facts_in, rules_say}
 use Rattle.dots_machine.proofs.Verdicts.{valued}
@@ -27,7 +27,7 @@ use Rattle.dots_machine.proofs.Connections.{opens_observers, opens_once}
 use Rattle.dots_machine.proofs.Fronts.{takes_apart}
 use Rattle.dots_machine.proofs.FrontsOnce.{takes_once}
 use Rattle.dots_machine.proofs.Quiet.{sends_size, one_size}
-use Rattle.dots_machine.proofs.Observing.{AllBeats, watches_once, told_apart, told_once, unshown_alike, border, notices_no_beats, all_beats}
+use Rattle.dots_machine.proofs.Observing.{AllBeats, watches_once, notified_apart, notified_once, unshown_alike, border, notices_no_beats, all_beats}
 use Rattle.dots_machine.proofs.OneRequest.{Same, one, first_refused, second_refused, same_received}
 use Rattle.dots_machine.proofs.Outcomes.{is_success, IsRefusal, SucceedsWell, reject_refuses, succeeds}
 
@@ -148,7 +148,7 @@ module _ (settings : SettingsValue) (state : State) (peer : ℕ) (datagram : Lis
 module _ (settings : SettingsValue) (state : State) (peer : ℕ) (datagram : List ℕ) where
   pub answered_once : (sends : List OwnedOut) (new last : State) → Apart state.observers → Answers settings state peer datagram sends new → Answers settings state peer datagram sends last → new ≡ last
   answered_once sends new last apart a b =
-      told_once settings (left settings state peer datagram sends last b) new last b.notices (left_apart settings state peer datagram sends last b apart)
+      notified_once settings (left settings state peer datagram sends last b) new last b.notices (left_apart settings state peer datagram sends last b apart)
       (subst (λ notices. Notified settings (left settings state peer datagram sends last b) notices new) split.1 (subst (λ from. Notified settings from a.notices new) same_left a.notified))
       b.notified
     where
@@ -196,17 +196,17 @@ ticked_once settings state sends new last apart a b =
         border a.notices b.notices a.heartbeats b.heartbeats
         (notices_no_beats (seen_in settings before) (bodies_at settings before.time before.history) before.observers a.notified.0 before.contacts a.notified.1 a.notices a.notified.2)
         (notices_no_beats (seen_in settings before) (bodies_at settings before.time before.history) before.observers b.notified.0 before.contacts b.notified.1 b.notices b.notified.2)
-        (subst AllBeats (sym a.beaten.0) (all_beats (beating settings a.told) a.told.time a.told.contacts))
-        (subst AllBeats (sym b.beaten.0) (all_beats (beating settings b.told) b.told.time b.told.contacts))
+        (subst AllBeats (sym a.beaten.0) (all_beats (beating settings a.between) a.between.time a.between.contacts))
+        (subst AllBeats (sym b.beaten.0) (all_beats (beating settings b.between) b.between.time b.between.contacts))
         (sym a.sends_are ∙ b.sends_are)
 
-    same : a.told ≡ b.told
-    same = told_once settings before a.told b.told b.notices apart (subst (λ notices. Notified settings before notices a.told) split.0 a.notified) b.notified
+    same : a.between ≡ b.between
+    same = notified_once settings before a.between b.between b.notices apart (subst (λ notices. Notified settings before notices a.between) split.0 a.notified) b.notified
 
 pub step_keeps_apart : (settings : SettingsValue) (old : State) (event : Event) (at : ℕ) (owed : List (State × OwnedOut)) (new : State) → Apart old.observers → Step settings old event at owed new → Apart new.observers
 step_keeps_apart settings old (event.Datagram peer datagram) at owed new apart step =
     let now = later old at in
-    told_apart settings (left settings now peer datagram step.0 new step.2) new step.2.notices (left_apart settings now peer datagram step.0 new step.2 apart) step.2.notified
+    notified_apart settings (left settings now peer datagram step.0 new step.2) new step.2.notices (left_apart settings now peer datagram step.0 new step.2 apart) step.2.notified
 step_keeps_apart settings old event.End at owed new apart step = subst (λ (s : State). Apart s.observers) (sym step.1) apart
 step_keeps_apart settings old event.Failed at owed new apart step = subst (λ (s : State). Apart s.observers) (sym step.1) apart
 step_keeps_apart settings old (event.Opened c p) at owed new apart step = subst Apart (sym (opens_observers (later old at) p c step.0 new step.2)) apart
@@ -239,10 +239,10 @@ step_once settings old event.Tick at owed others new last (apart, a) (too, b) ou
 step_once settings old event.Restart at owed others new last (apart, a) (too, b) outs = (a.0 ∙ sym b.0, a.1 ∙ sym b.1)
 
 -- and so it is all the way
-told_apart_too : (settings : SettingsValue) (old between : Owing State) (act : WireAct) (told : State) → Apart old.last.observers → ToldStep (Step settings) old act told between
+sent_apart : (settings : SettingsValue) (old between : Owing State) (act : WireAct) (told : State) → Apart old.last.observers → ToldStep (Step settings) old act told between
     → ToldStep (ApartStep settings) old act told between × Apart between.last.observers
-told_apart_too settings old between (took event at) told apart s = ((s.0, (apart, s.1)), step_keeps_apart settings old.last event at between.owed between.last apart s.1)
-told_apart_too settings old between (gave out done) told apart s = (s, subst (λ (s : State). Apart s.observers) (sym s.1) apart)
+sent_apart settings old between (took event at) told apart s = ((s.0, (apart, s.1)), step_keeps_apart settings old.last event at between.owed between.last apart s.1)
+sent_apart settings old between (gave out done) told apart s = (s, subst (λ (s : State). Apart s.observers) (sym s.1) apart)
 
 trace_apart : (settings : SettingsValue) (old : Owing State) (acts : List Timed) (trace : List State) (new : Owing State) → Apart old.last.observers
     → Trace (Step settings) old acts trace new → Trace (ApartStep settings) old acts trace new
@@ -250,7 +250,7 @@ trace_apart settings old [] [] new apart t = t
 trace_apart settings old [] (told ∷ trace) new apart t = absurd t
 trace_apart settings old (timed ∷ acts) [] new apart t = absurd t
 trace_apart settings old (timed ∷ acts) (told ∷ trace) new apart t =
-    let first = told_apart_too settings old t.0 timed.act told apart t.1 in
+    let first = sent_apart settings old t.0 timed.act told apart t.1 in
     (t.0, first.0, trace_apart settings t.0 acts trace new first.1 t.2)
 
 pub one_state : (settings : SettingsValue) (from : State) (acts : List Timed) (trace others : List State) (new last : State) → Apart from.observers

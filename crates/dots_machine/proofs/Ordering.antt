@@ -9,16 +9,16 @@ use Rattle.dots_host.specs.declared.event.Event.TheVariants as event
 use Rattle.dots_host.specs.declared.out.OwnedOut.{OwnedOut}
 use Rattle.dots_host.specs.Acts.{Timed}
 use Rattle.dots_host.specs.Runs.{resting, Turn, Chain, Trace}
-use Rattle.dots_laws.specs.Fits.{last_time, is_of_mitigations}
-use Rattle.dots_laws.proofs.Joining.{last_of_push}
+use Rattle.dots_history.specs.Fits.{last_time, is_of_mitigations}
+use Rattle.dots_history.proofs.Joining.{last_of_push}
 use Rattle.dots_settings.specs.Settings.{SettingsValue}
 use Rattle.dots_settings.specs.Lookups.{role_of, prefixes_of}
 use Rattle.dots_history.specs.declared.entry.Entry.{Entry}
 use Rattle.dots_history.specs.declared.put.Put.{Put}
 use Rattle.dots_history.specs.declared.change.Change.TheVariants as change
-use Rattle.dots_heads.specs.declared.reject.Reject.{Reject}
-use Rattle.dots_heads.specs.declared.reject.Reject.TheVariants as reject
-use Rattle.dots_heads.specs.declared.request.Content.{Content}
+use Rattle.dots_keys.specs.declared.reject.Reject.{Reject}
+use Rattle.dots_keys.specs.declared.reject.Reject.TheVariants as reject
+use Rattle.dots_keys.specs.declared.head_request.Content.{Content}
 use Rattle.dots_keys.specs.declared.request.Request.{Request}
 use Rattle.dots_keys.specs.declared.request.ConfigBody.{ConfigBody}
 use Rattle.dots_history.specs.declared.config.Config.{Config}
@@ -31,10 +31,10 @@ use Rattle.conflict_rules.specs.declared.fault.PutFault.{PutFault}
 use Rattle.conflict_rules.specs.declared.fault.PutFault.TheVariants as faults
 use Rattle.conflict_rules.specs.declared.judging.Judged.{Judged}
 use Rattle.conflict_rules.specs.Judgements.{IsJudged}
-use Rattle.target_rules.specs.declared.target.TargetFault.{TargetFault}
-use Rattle.coap_replies.specs.declared.exchange.Exchange.{Exchange}
-use Rattle.coap_replies.specs.declared.dismissal.Dismissal.{Dismissal}
-use Rattle.coap_replies.specs.declared.dismissal.Dismissal.TheVariants as dismissal
+use Rattle.conflict_rules.specs.declared.target.TargetFault.{TargetFault}
+use Rattle.dots_keys.specs.declared.exchange.Exchange.{Exchange}
+use Rattle.dots_keys.specs.declared.dismissal.Dismissal.{Dismissal}
+use Rattle.dots_keys.specs.declared.dismissal.Dismissal.TheVariants as dismissal
 use Rattle.dots_machine.specs.declared.received.Received.{Received}
 use Rattle.dots_machine.specs.declared.received.Received.TheVariants as received
 use Rattle.dots_machine.specs.declared.client_request.ClientRequest.{ClientRequest}
@@ -42,14 +42,14 @@ use Rattle.dots_machine.specs.declared.mitigation_request.MitigationRequest.{Mit
 use Rattle.dots_machine.specs.Verdict.{Verdict}
 use Rattle.dots_machine.specs.declared.verdict.Verdict.TheVariants as verdict
 use Rattle.dots_machine.specs.Domains.{domain_for, config_domain}
-use Rattle.target_rules.specs.Targets.{scope_fault}
+use Rattle.conflict_rules.specs.AskableTargets.{scope_fault}
 use Rattle.dots_machine.specs.MessageRepeats.{sent_for, unless_repeated}
 use Rattle.dots_machine.specs.Mitigations.{entry_of, sent_by, request_of, refusal, judged, client_for, get_reply, unless_faulty, put_answer, is_taken, delete_by, delete_answer, get_by, get_answer}
 use Rattle.dots_machine.specs.Machine.{State, afresh, later, restarted, with_entry, option_verdict, reject_verdict, dismissal_verdict, Decides, by_silence, by_rules, for_want_of_memory, after, AnswersFront, receiving, Takes, Step, facts_in, rules_say, Hears, lapsed}
 use Rattle.dots_machine.specs.Orderly.{ShareNone, HigherStays, IsOrderly}
 use Rattle.dots_machine.specs.Handlings.{Handling, IsHandling, EachHandling, handlings_of}
 use Rattle.dots_machine.specs.Replies.{configuration_reply, absent}
-use Rattle.dots_machine.specs.Sessions.{Configured, sid_of, is_held}
+use Rattle.dots_machine.specs.ConfiguredPeers.{Configured, sid_of, is_held}
 use Rattle.dots_machine.specs.Facts.{Facts}
 use Rattle.dots_machine.specs.Deciding.{in_domain, with_mid, put_in, put_for, delete_in, delete_for, get_for, config_answer, put_config_for, clear_answer, delete_config_for, config_view, get_config_for, answer_to, asks_for}
 use Rattle.dots_machine.proofs.Verdicts.{are_facts, valued}
@@ -57,7 +57,7 @@ use Rattle.dots_machine.proofs.Hearing.{answer_history, answer_time, tick_histor
 use Rattle.dots_machine.proofs.Returning.{AreOfSignals, puts_none, back_signals, history_lapses}
 use Rattle.dots_machine.specs.Signals.{back_of, last_heard}
 use Rattle.dots_machine.proofs.Connections.{opens_history, opens_time}
-use Rattle.dots_machine.proofs.Observing.{told_history, told_time}
+use Rattle.dots_machine.proofs.Observing.{notified_history, notified_time}
 use Rattle.dots_machine.proofs.Fronts.{front_time}
 use Rattle.rest_answers.specs.Turns.{AddsOne}
 use Rattle.rest_answers.proofs.Turning.{adds_one}
@@ -121,16 +121,16 @@ module _ (settings : SettingsValue) (state : State) where
       by_test false true = inr (refl, withdraws_none mid)
       by_test false false = tt
 
-  of_tell : (x : Exchange) (content : Content) (ms : List LiveView) → AcceptsAs (get_reply x content ms)
-  of_tell x content [] = tt
-  of_tell x content (m ∷ ms) = tt
+  of_retrieved : (x : Exchange) (content : Content) (ms : List LiveView) → AcceptsAs (get_reply x content ms)
+  of_retrieved x content [] = tt
+  of_retrieved x content (m ∷ ms) = tt
 
   of_get : (from : ClientRequest) (mid : Option ℕ) (content : Content) → AcceptsAs (get_answer known from mid content)
   of_get from mid content = by_test (is_taken known from)
     where
       by_test : (taken : Bool) → AcceptsAs (get_by from.exchange mid content taken (known.views (client_for from)))
       by_test true = tt
-      by_test false = of_tell from.exchange content _
+      by_test false = of_retrieved from.exchange content _
 
   of_domain : (x : Exchange) (found : Option ℕ) (f : ℕ → Verdict) → ((d : ℕ) → AcceptsAs (f d)) → AcceptsAs (in_domain x found f)
   of_domain x None f each = tt
@@ -333,7 +333,7 @@ step_orderly settings old (event.Opened c p) at owed new orderly step =
 step_orderly settings old (event.Piece c p) at owed new orderly step =
     let state = receiving c p (later old at) in
     let x : Takes settings c state step.0 new = step.2 in
-    orderly_as x.rested new (told_history settings x.rested new x.notices x.notified) (told_time settings x.rested new x.notices x.notified)
+    orderly_as x.rested new (notified_history settings x.rested new x.notices x.notified) (notified_time settings x.rested new x.notices x.notified)
     (fronts_orderly settings c state x.answered x.rested x.fronts (orderly_as (later old at) state refl refl (later_orderly old at orderly)))
 step_orderly settings old (event.Closed c) at owed new orderly step =
     orderly_as (later old at) new (ap (λ (s : State). s.history) step.1) (ap (λ (s : State). s.time) step.1) (later_orderly old at orderly)

@@ -11,9 +11,9 @@ use Rattle.dots_history.specs.declared.change.Change.TheVariants as change
 use Rattle.dots_history.specs.Entries.{put_of, runs, ends, some_prefix, targets_meet}
 use Rattle.dots_history.specs.Places.{Stands}
 use Rattle.dots_settings.specs.Settings.{SettingsValue}
-use Rattle.dots_laws.specs.Tables.{Client}
-use Rattle.dots_laws.proofs.Lasting.{runs_no_more}
-use Rattle.dots_laws.proofs.Members.{In}
+use Rattle.dots_history.specs.Tables.{Client}
+use Rattle.dots_history.proofs.Lasting.{runs_no_more}
+use Rattle.dots_history.proofs.Members.{In}
 use Rattle.conflict_rules.specs.ByOverlap.{resolved, rivals}
 use Rattle.conflict_rules.specs.Wanted.{wanted}
 use Rattle.conflict_rules.specs.Lives.{put_or_nothing}

@@ -4,11 +4,11 @@ use Rattle.coap_message.specs.declared.kind.Kind.{Kind}
 use Rattle.coap_message.specs.declared.kind.Kind.TheVariants.{Con, Non, Ack, Rst}
 use Rattle.dots_settings.specs.Settings.{SettingsValue}
 use Rattle.dots_settings.specs.Lookups.{role_of, prefixes_of}
-use Rattle.dots_heads.specs.declared.reject.Reject.{Reject}
-use Rattle.dots_heads.specs.declared.reject.Reject.TheVariants as reject
-use Rattle.dots_heads.specs.declared.request.Content.{Content}
+use Rattle.dots_keys.specs.declared.reject.Reject.{Reject}
+use Rattle.dots_keys.specs.declared.reject.Reject.TheVariants as reject
+use Rattle.dots_keys.specs.declared.head_request.Content.{Content}
 use Rattle.dots_history.specs.declared.entry.Entry.{Entry}
-use Rattle.dots_heads.specs.declared.request.MitigationPath.{MitigationPath}
+use Rattle.dots_keys.specs.declared.head_request.MitigationPath.{MitigationPath}
 use Rattle.dots_keys.specs.declared.request.Request.{Request}
 use Rattle.dots_keys.specs.declared.request.Request.TheVariants as request
 use Rattle.dots_keys.specs.declared.request.MitigationBody.{MitigationBody}
@@ -21,10 +21,10 @@ use Rattle.conflict_rules.specs.LiveViews.{LiveView}
 use Rattle.conflict_rules.specs.declared.fault.PutFault.{PutFault}
 use Rattle.conflict_rules.specs.declared.fault.PutFault.TheVariants as faults
 use Rattle.conflict_rules.specs.declared.judging.Judged.{Judged}
-use Rattle.target_rules.specs.declared.target.TargetFault.{TargetFault}
-use Rattle.coap_replies.specs.declared.exchange.Exchange.{Exchange}
-use Rattle.coap_replies.specs.declared.dismissal.Dismissal.{Dismissal}
-use Rattle.coap_replies.specs.declared.dismissal.Dismissal.TheVariants as dismissal
+use Rattle.conflict_rules.specs.declared.target.TargetFault.{TargetFault}
+use Rattle.dots_keys.specs.declared.exchange.Exchange.{Exchange}
+use Rattle.dots_keys.specs.declared.dismissal.Dismissal.{Dismissal}
+use Rattle.dots_keys.specs.declared.dismissal.Dismissal.TheVariants as dismissal
 use Rattle.dots_machine.specs.declared.received.Received.{Received}
 use Rattle.dots_machine.specs.declared.received.Received.TheVariants as received
 use Rattle.dots_machine.specs.declared.client_request.ClientRequest.{ClientRequest}
@@ -32,15 +32,15 @@ use Rattle.dots_machine.specs.declared.mitigation_request.MitigationRequest.{Mit
 use Rattle.dots_machine.specs.Verdict.{Verdict}
 use Rattle.dots_machine.specs.declared.verdict.Verdict.TheVariants as verdict
 use Rattle.dots_machine.specs.Domains.{domain_for, config_domain}
-use Rattle.target_rules.specs.Targets.{scope_fault}
-use Rattle.coap_replies.specs.Replies.{rejection}
+use Rattle.conflict_rules.specs.AskableTargets.{scope_fault}
+use Rattle.dots_keys.specs.Replies.{rejection}
 use Rattle.dots_machine.specs.Replies.{grant_code, configuration_reply, absent}
 use Rattle.dots_machine.specs.MessageRepeats.{sent_for, unless_repeated}
 use Rattle.dots_machine.specs.Observing.{code_of}
 use Rattle.dots_machine.specs.Mitigations.{sent_by, request_of, refusal, judged, get_reply, unless_faulty, put_answer, is_taken, delete_by, delete_answer, get_by, get_answer, client_for}
 use Rattle.dots_machine.specs.Machine.{option_verdict, reject_verdict, dismissal_verdict, rules_say}
 use Rattle.dots_machine.specs.Apart.{domain_of}
-use Rattle.dots_machine.specs.Sessions.{Configured, sid_of, is_held}
+use Rattle.dots_machine.specs.ConfiguredPeers.{Configured, sid_of, is_held}
 use Rattle.dots_machine.specs.Facts.{Facts}
 use Rattle.dots_machine.specs.Deciding.{in_domain, with_mid, put_in, put_for, delete_in, delete_for, get_for, config_answer, put_config_for, clear_answer, delete_config_for, config_view, get_config_for, answer_to, asks_for}
 
@@ -129,16 +129,16 @@ module _ (settings : SettingsValue) (facts : Facts) where
       by_test false true = (refl, refl)
       by_test false false = tt
 
-  tell_accepts : (x : Exchange) (domain : ℕ) (content : Content) (ms : List LiveView) → AcceptsWell domain (get_reply x content ms)
-  tell_accepts x domain content [] = tt
-  tell_accepts x domain content (m ∷ ms) = tt
+  retrieved_accepts : (x : Exchange) (domain : ℕ) (content : Content) (ms : List LiveView) → AcceptsWell domain (get_reply x content ms)
+  retrieved_accepts x domain content [] = tt
+  retrieved_accepts x domain content (m ∷ ms) = tt
 
   get_accepts : (from : ClientRequest) (mid : Option ℕ) (content : Content) → AcceptsWell from.domain (get_answer facts from mid content)
   get_accepts from mid content = by_test (is_taken facts from)
     where
       by_test : (taken : Bool) → AcceptsWell from.domain (get_by from.exchange mid content taken (facts.views (client_for from)))
       by_test true = tt
-      by_test false = tell_accepts from.exchange from.domain content _
+      by_test false = retrieved_accepts from.exchange from.domain content _
 
   with_mid_accepts : (x : Exchange) (domain : ℕ) (mid : Option ℕ) (f : ℕ → Verdict) → ((m : ℕ) → AcceptsWell domain (f m)) → AcceptsWell domain (with_mid x mid f)
   with_mid_accepts x domain None f each = tt

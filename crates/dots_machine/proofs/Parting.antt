@@ -11,7 +11,7 @@ use Rattle.dots_settings.specs.Settings.{SettingsValue}
 use Rattle.dots_settings.specs.Lookups.{role_of}
 use Rattle.dots_history.specs.declared.entry.Entry.{Entry}
 use Rattle.dots_history.specs.Histories.{alone, held}
-use Rattle.dots_laws.specs.HistoryReading.{is_mitigated, is_waiting}
+use Rattle.dots_history.specs.HistoryReading.{is_mitigated, is_waiting}
 use Rattle.coap_observe.specs.Observed.{ObservedValue}
 use Rattle.coap_observe.specs.Seen.{Lists}
 use Rattle.session_core.specs.declared.contact.Contact.{Contact}
@@ -20,14 +20,14 @@ use Rattle.session_core.specs.declared.contact.PeerContact.{PeerContact}
 use Rattle.session_core.specs.Contacts.{is_of, session_of, session_heard, row_heard, heard_from, row_begun, numbered, session_in, contact_numbered, row_numbered}
 use Rattle.session_core.specs.Beating.{Beating, has_lost, has_due, row_forgotten, row_sent, lost_in, contact_forgotten, session_sent, contact_sent}
 use Rattle.session_core.specs.Spacing.{without_lost, with_beat}
-use Rattle.dots_notices.specs.Notifying.{Bodies, Notifies}
+use Rattle.session_core.specs.Notifying.{Bodies, Notifies}
 use Rattle.dots_machine.specs.Domains.{config_domain}
-use Rattle.dots_machine.specs.Sessions.{beat_of, values_in_force, config_in, configured_in, entries_for, beating_at}
+use Rattle.dots_machine.specs.ConfiguredPeers.{beat_of, values_in_force, config_in, configured_in, entries_for, beating_at}
 use Rattle.dots_machine.specs.Signals.{domain_of_client, own_domain, is_lost_in, is_watched_in, watched_by, is_watched, LastHeard, heard_at, last_heard, is_silent, loss_in, loss_of, row_lapsed, history_lapsed, rows_lapsed, back_in, back_of, signal_entry}
 use Rattle.dots_machine.specs.Machine.{State, seen_in, Notified, hearing, lapsed, beating, Beats, Ticks}
 use Rattle.dots_machine.specs.Observing.{bodies_at}
 use Rattle.dots_machine.specs.Parts.{Part, is_domain, is_client_in, heard_in, part_of, heard_now, part_heard, begun_at, unless_silent, last_heard_lapsed, heard_lapsed, part_lapsed}
-use Rattle.dots_laws.specs.Held.{config_of, is_lost_of}
+use Rattle.dots_history.specs.Held.{config_of, is_lost_of}
 use Rattle.dots_history.specs.declared.change.Change.TheVariants as change
 
 pub alone_twice : (domain : ℕ) (entries : List Entry) → alone domain entries ≡ alone domain (alone domain entries)
@@ -403,8 +403,8 @@ notified_rows lists bodies (o ∷ os) contacts sends new left (inl (rest, is, mo
 notified_rows lists bodies (o ∷ os) contacts sends new left (inr (id, later, rest, due, numbered_so, sent, is, more)) =
     notified_rows lists bodies os (numbered o.observer.peer contacts) later rest left more ∙ numbered_rows o.observer.peer contacts
 
-pub told_heard : (settings : SettingsValue) (state new : State) (sends : List OwnedOut) → Notified settings state sends new → map last_heard new.contacts ≡ map last_heard state.contacts
-told_heard settings state new sends n =
+pub notified_heard : (settings : SettingsValue) (state new : State) (sends : List OwnedOut) → Notified settings state sends new → map last_heard new.contacts ≡ map last_heard state.contacts
+notified_heard settings state new sends n =
     ap (λ (s : State). map last_heard s.contacts) n.3
     ∙ notified_rows (seen_in settings state) (bodies_at settings state.time state.history) state.observers state.contacts sends n.0 n.1 n.2
 
@@ -427,13 +427,13 @@ beaten_rows by t (row ∷ rows) =
     (cond_both (has_due by t row) (row_sent t row) row (λ r. last_heard r ≡ last_heard row) (λ yes. sent_row t row) (λ never. refl))
 
 module _ (settings : SettingsValue) (domain : ℕ) where
-  pub told_part : (state new : State) (sends : List OwnedOut) → Notified settings state sends new → part_of settings domain new ≡ part_of settings domain state
-  told_part state new sends n =
-      part_is settings domain _ _ _ _ (ap (λ (s : State). alone domain s.history) n.3) (ap (filter (is_client_in settings domain)) (told_heard settings state new sends n))
+  pub notified_part : (state new : State) (sends : List OwnedOut) → Notified settings state sends new → part_of settings domain new ≡ part_of settings domain state
+  notified_part state new sends n =
+      part_is settings domain _ _ _ _ (ap (λ (s : State). alone domain s.history) n.3) (ap (filter (is_client_in settings domain)) (notified_heard settings state new sends n))
 
   pub tick_part : (state : State) (sends : List OwnedOut) (new : State) → Ticks settings state sends new → part_of settings domain new ≡ part_lapsed settings state.time (part_of settings domain state)
   tick_part state sends new t =
       ap (part_of settings domain) t.beaten.1
-      ∙ part_is settings domain _ _ _ _ refl (ap (filter (is_client_in settings domain)) (beaten_rows (beating settings t.told) t.told.time t.told.contacts))
-      ∙ told_part (lapsed settings state) t.told t.notices t.notified
+      ∙ part_is settings domain _ _ _ _ refl (ap (filter (is_client_in settings domain)) (beaten_rows (beating settings t.between) t.between.time t.between.contacts))
+      ∙ notified_part (lapsed settings state) t.between t.notices t.notified
       ∙ lapsed_part settings domain state

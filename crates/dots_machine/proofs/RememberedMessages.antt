@@ -14,8 +14,8 @@ use Rattle.dots_history.specs.declared.change.Change.TheVariants as change
 use Rattle.dots_history.specs.declared.put.Put.{Put}
 use Rattle.dots_history.specs.Entries.{is_signal, signals, may_repeat}
 use Rattle.dots_history.specs.Histories.{tally}
-use Rattle.dots_heads.specs.declared.request.Content.{Content}
-use Rattle.dots_heads.specs.declared.request.MitigationPath.{MitigationPath}
+use Rattle.dots_keys.specs.declared.head_request.Content.{Content}
+use Rattle.dots_keys.specs.declared.head_request.MitigationPath.{MitigationPath}
 use Rattle.dots_keys.specs.declared.request.Request.{Request}
 use Rattle.dots_keys.specs.declared.request.Request.TheVariants as request
 use Rattle.dots_keys.specs.declared.request.MitigationBody.{MitigationBody}
@@ -23,13 +23,13 @@ use Rattle.conflict_rules.specs.LiveViews.{LiveView}
 use Rattle.conflict_rules.specs.declared.fault.PutFault.{PutFault}
 use Rattle.conflict_rules.specs.declared.fault.PutFault.TheVariants as faults
 use Rattle.conflict_rules.specs.declared.judging.Judged.{Judged}
-use Rattle.target_rules.specs.declared.target.TargetFault.{TargetFault}
-use Rattle.coap_replies.specs.declared.exchange.Exchange.{Exchange}
+use Rattle.conflict_rules.specs.declared.target.TargetFault.{TargetFault}
+use Rattle.dots_keys.specs.declared.exchange.Exchange.{Exchange}
 use Rattle.dots_machine.specs.declared.client_request.ClientRequest.{ClientRequest}
 use Rattle.dots_machine.specs.Verdict.{Verdict}
 use Rattle.dots_machine.specs.declared.verdict.Verdict.TheVariants as verdict
 use Rattle.dots_machine.specs.Domains.{domain_for, config_domain}
-use Rattle.target_rules.specs.Targets.{scope_fault}
+use Rattle.conflict_rules.specs.AskableTargets.{scope_fault}
 use Rattle.dots_machine.specs.MessageRepeats.{sent_for, IsRepeatOf, unless_repeated}
 use Rattle.dots_machine.specs.RepeatRule.{remembered_for}
 use Rattle.dots_machine.specs.Mitigations.{key_of, entry_of, sent_by, request_of, refusal, judged, get_reply, unless_faulty, is_taken, delete_by, get_by, client_for}
@@ -41,7 +41,7 @@ use Rattle.session_core.specs.declared.negotiating.ConfigFault.{ConfigFault}
 use Rattle.session_core.specs.declared.negotiating.ConfigFault.TheVariants.{Range, OlderSid}
 use Rattle.session_core.specs.Negotiating.{negotiated}
 use Rattle.dots_machine.specs.Replies.{configuration_reply, absent}
-use Rattle.dots_machine.specs.Sessions.{Configured, sid_of, is_held}
+use Rattle.dots_machine.specs.ConfiguredPeers.{Configured, sid_of, is_held}
 use Rattle.dots_machine.specs.Facts.{Facts}
 use Rattle.dots_machine.specs.Deciding.{in_domain, with_mid, put_in, put_for, delete_in, delete_for, get_for, config_entry, config_answer, put_config_for, clear_answer, delete_config_for, config_view, answer_to, asks_for}
 use Rattle.dots_machine.proofs.Verdicts.{request_valued}
@@ -152,9 +152,9 @@ module _ (settings : SettingsValue) (facts : Facts) (peer : ℕ) (x : Exchange) 
   with_mid_keeps domain None f each = tt
   with_mid_keeps domain (Some mid) f each = each mid
 
-  tell_keeps : (domain : ℕ) (content : Content) (ms : List LiveView) → KeepsFor domain (get_reply x content ms)
-  tell_keeps domain content [] = tt
-  tell_keeps domain content (m ∷ ms) = tt
+  retrieved_keeps : (domain : ℕ) (content : Content) (ms : List LiveView) → KeepsFor domain (get_reply x content ms)
+  retrieved_keeps domain content [] = tt
+  retrieved_keeps domain content (m ∷ ms) = tt
 
   module _ (path : MitigationPath) (domain : ℕ) where
     abbrev from : ClientRequest
@@ -192,7 +192,7 @@ module _ (settings : SettingsValue) (facts : Facts) (peer : ℕ) (x : Exchange) 
       where
         by_test : (taken : Bool) → KeepsFor domain (get_by x path.mid content taken (facts.views (client_for from)))
         by_test true = tt
-        by_test false = tell_keeps domain content _
+        by_test false = retrieved_keeps domain content _
 
   config_entry_keeps : (domain : ℕ) (reply : List ℕ) (made : Change) → is_signal made ≡ true → Keeps facts.time peer x domain reply (config_entry facts.time peer domain x reply made)
   config_entry_keeps domain reply made is =

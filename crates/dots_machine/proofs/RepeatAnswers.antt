@@ -11,7 +11,7 @@ use Rattle.dots_settings.specs.Lookups.{role_of}
 use Rattle.dots_history.specs.declared.entry.Entry.{Entry}
 use Rattle.dots_keys.specs.declared.request.Request.{Request}
 use Rattle.dots_keys.specs.declared.request.Request.TheVariants as request
-use Rattle.coap_replies.specs.declared.exchange.Exchange.{Exchange}
+use Rattle.dots_keys.specs.declared.exchange.Exchange.{Exchange}
 use Rattle.dots_machine.specs.declared.received.Received.TheVariants as received
 use Rattle.dots_machine.specs.declared.client_request.ClientRequest.{ClientRequest}
 use Rattle.dots_machine.specs.declared.mitigation_request.MitigationRequest.{MitigationRequest}
@@ -30,7 +30,7 @@ use Rattle.dots_machine.specs.RepeatRule.{AsksToChange}
 use Rattle.dots_machine.specs.Handlings.{Handling, IsHandling, EachHandling, handlings_of}
 use Rattle.dots_machine.specs.RepeatAnswers.{IsRepeated, AnswersRepeats}
 use Rattle.session_core.specs.Negotiating.{negotiated}
-use Rattle.dots_machine.specs.Sessions.{Configured, sid_of, is_held}
+use Rattle.dots_machine.specs.ConfiguredPeers.{Configured, sid_of, is_held}
 use Rattle.dots_machine.specs.Facts.{Facts, AreFacts}
 use Rattle.dots_machine.specs.Deciding.{in_domain, with_mid, put_in, put_for, delete_in, delete_for, config_answer, put_config_for, clear_answer, delete_config_for, answer_to, asks_for}
 use Rattle.dots_machine.proofs.MessageRepeats.{one_repeated}

@@ -9,10 +9,10 @@ use Rattle.dots_history.specs.declared.change.Change.{Change}
 use Rattle.dots_history.specs.declared.change.Change.TheVariants as change
 use Rattle.dots_history.specs.Entries.{signals, is_signal, is_loss, may_repeat}
 use Rattle.dots_history.specs.Histories.{tally}
-use Rattle.coap_replies.specs.declared.exchange.Exchange.{Exchange}
+use Rattle.dots_keys.specs.declared.exchange.Exchange.{Exchange}
 use Rattle.dots_machine.specs.MessageRepeats.{Sent, sent_for, IsRepeatOf}
 use Rattle.dots_machine.specs.Signals.{own_domain, signal_entry, is_lost_in, is_watched_in, LastHeard, is_silent, loss_in, loss_of, history_lapsed, back_in, back_of}
-use Rattle.dots_machine.specs.Sessions.{beating_at}
+use Rattle.dots_machine.specs.ConfiguredPeers.{beating_at}
 use Rattle.dots_machine.specs.Machine.{State, hearing, lapsed}
 
 -- ---- what they are

@@ -9,14 +9,14 @@ use Rattle.dots_host.specs.declared.out.OwnedOut.{OwnedOut}
 use Rattle.dots_host.specs.Acts.{WireAct, took, gave, Timed}
 use Rattle.dots_host.specs.Runs.{Owing, resting, Turn, Chain, Trace, each_telling, owed_in, IsSend, outs_of, Gives}
 use Rattle.dots_host.proofs.RunLemmas.{outs_back}
-use Rattle.dots_disk.specs.Media.{Medium, Media, IsImage, all_media}
-use Rattle.dots_disk.specs.Becoming.{EachMedium, KeepsMedia, Leaves, RestsWith}
+use Rattle.dots_host.specs.Media.{Medium, Media, IsImage, all_media}
+use Rattle.dots_host.specs.Becoming.{EachMedium, KeepsMedia, Leaves, RestsWith}
 use Rattle.slot_store.proofs.Steps.{image_at_rest}
 use Rattle.dots_settings.specs.Settings.{SettingsValue}
 use Rattle.dots_history.specs.declared.entry.Entry.{Entry}
 use Rattle.dots_history.specs.Histories.{Within}
-use Rattle.dots_laws.specs.Fits.{last_or, last_time}
-use Rattle.dots_laws.proofs.Composing.{kept_later}
+use Rattle.dots_history.specs.Fits.{last_or, last_time}
+use Rattle.dots_history.proofs.Composing.{kept_later}
 use Rattle.slot_journal.specs.Kept.{HasKept}
 use Rattle.dots_machine.specs.Verdict.{Verdict}
 use Rattle.dots_machine.specs.declared.verdict.Verdict.TheVariants as verdict
@@ -29,7 +29,7 @@ use Rattle.dots_machine.proofs.Returning.{history_lapses}
 use Rattle.dots_machine.specs.Signals.{back_of, last_heard}
 use Rattle.dots_machine.proofs.Connections.{opens_history, opens_time}
 use Rattle.dots_machine.proofs.Fronts.{owed_then, fronts_grow, takes_grows, takes_time}
-use Rattle.dots_machine.proofs.Observing.{told_history}
+use Rattle.dots_machine.proofs.Observing.{notified_history}
 use Rattle.dots_machine.specs.Surviving.{Story, shown_by, entries_shown, shown, time_shown, time_at, past_of, NoneBefore, MeansAt, EachFrom, LeavesAt}
 
 -- ---- runs with all that they tell
@@ -61,8 +61,8 @@ ran_whole settings start last how acts trace ends story stops = record {
   whole = acts;
   behind = [];
   acts_are = sym (append-nil acts);
-  told = trace;
-  told_behind = [];
+  states = trace;
+  states_behind = [];
   trace_is = sym (append-nil trace);
   state = last;
   run = story;
@@ -75,7 +75,7 @@ pub ended_story : (settings : SettingsValue) (start : State) (end : Owing State)
 ended_story settings start end acts trace ran =
     subst (λ e. Story settings (resting start) acts trace e) (sym ran.ends.2)
     (subst (λ xs. Story settings (resting start) xs trace (resting ran.state)) (sym (ran.acts_are ∙ ap (λ xs. ran.whole ++ xs) ran.ends.0 ∙ append-nil ran.whole))
-    (subst (λ ts. Story settings (resting start) ran.whole ts (resting ran.state)) (sym (ran.trace_is ∙ ap (λ ts. ran.told ++ ts) ran.ends.1 ∙ append-nil ran.told)) ran.run))
+    (subst (λ ts. Story settings (resting start) ran.whole ts (resting ran.state)) (sym (ran.trace_is ∙ ap (λ ts. ran.states ++ ts) ran.ends.1 ∙ append-nil ran.states)) ran.run))
 
 -- ---- before and after a moment
 
@@ -128,34 +128,34 @@ time_late m (timed ∷ acts) (told ∷ trace) t late =
 -- ---- sends
 
 -- none of the sends tells more entries
-abbrev pub TellFew : ℕ → List (State × OwnedOut) → Type 0
-TellFew most [] = Unit {0}
-TellFew most (send ∷ owed) = (length send.0.history ≤ most) × TellFew most owed
+abbrev pub ShowFew : ℕ → List (State × OwnedOut) → Type 0
+ShowFew most [] = Unit {0}
+ShowFew most (send ∷ owed) = (length send.0.history ≤ most) × ShowFew most owed
 
-few_told : (act : WireAct) (out : OwnedOut) (told : State) (b : Bool) (n most : ℕ) → IsSend out act → n ≤ most → length told.history ≤ most → (if b then entries_shown act told n else n) ≤ most
-few_told (took e at) out told b n most s less few = absurd s
-few_told (gave o d) out told true n most s less few = few
-few_told (gave o d) out told false n most s less few = less
+few_after : (act : WireAct) (out : OwnedOut) (told : State) (b : Bool) (n most : ℕ) → IsSend out act → n ≤ most → length told.history ≤ most → (if b then entries_shown act told n else n) ≤ most
+few_after (took e at) out told b n most s less few = absurd s
+few_after (gave o d) out told true n most s less few = few
+few_after (gave o d) out told false n most s less few = less
 
-shown_sends : (m moment : ℕ) (owed : List (State × OwnedOut)) (acts : List Timed) (n most : ℕ) → Gives moment (outs_of owed) acts → n ≤ most → TellFew most owed → shown m acts (shown_by owed) n ≤ most
+shown_sends : (m moment : ℕ) (owed : List (State × OwnedOut)) (acts : List Timed) (n most : ℕ) → Gives moment (outs_of owed) acts → n ≤ most → ShowFew most owed → shown m acts (shown_by owed) n ≤ most
 shown_sends m moment [] [] n most g less few = less
 shown_sends m moment [] (timed ∷ acts) n most g less few = absurd g
 shown_sends m moment (send ∷ owed) [] n most g less few = absurd g
 shown_sends m moment (send ∷ owed) (timed ∷ acts) n most g less few =
     shown_sends m (moment + 1) owed acts (if nat_lt timed.moment m then entries_shown timed.act send.0 n else n) most g.2
-    (few_told timed.act send.1 send.0 (nat_lt timed.moment m) n most g.1 less few.0) few.1
+    (few_after timed.act send.1 send.0 (nat_lt timed.moment m) n most g.1 less few.0) few.1
 
-no_time_told : (act : WireAct) (out : OwnedOut) (told : State) (b : Bool) (t : ℕ) → IsSend out act → (if b then time_shown act told t else t) ≡ t
-no_time_told (took e at) out told b t s = absurd s
-no_time_told (gave o d) out told true t s = refl
-no_time_told (gave o d) out told false t s = refl
+no_time_sent : (act : WireAct) (out : OwnedOut) (told : State) (b : Bool) (t : ℕ) → IsSend out act → (if b then time_shown act told t else t) ≡ t
+no_time_sent (took e at) out told b t s = absurd s
+no_time_sent (gave o d) out told true t s = refl
+no_time_sent (gave o d) out told false t s = refl
 
 time_sends : (m moment : ℕ) (owed : List (State × OwnedOut)) (acts : List Timed) (t : ℕ) → Gives moment (outs_of owed) acts → time_at m acts (shown_by owed) t ≡ t
 time_sends m moment [] [] t g = refl
 time_sends m moment [] (timed ∷ acts) t g = absurd g
 time_sends m moment (send ∷ owed) [] t g = absurd g
 time_sends m moment (send ∷ owed) (timed ∷ acts) t g =
-    ap (λ u. time_at m acts (shown_by owed) u) (no_time_told timed.act send.1 send.0 (nat_lt timed.moment m) t g.1) ∙ time_sends m (moment + 1) owed acts t g.2
+    ap (λ u. time_at m acts (shown_by owed) u) (no_time_sent timed.act send.1 send.0 (nat_lt timed.moment m) t g.1) ∙ time_sends m (moment + 1) owed acts t g.2
 
 gives_length : (m : ℕ) (owed : List (State × OwnedOut)) (acts : List Timed) → Gives m (outs_of owed) acts → length acts ≡ length (shown_by owed)
 gives_length m [] [] g = refl
@@ -165,51 +165,51 @@ gives_length m (send ∷ owed) (timed ∷ acts) g = let same = gives_length (m +
 
 -- ---- a step
 
-tell_each : (new : State) (outs : List OwnedOut) → TellFew (length new.history) (each_telling new outs)
-tell_each new [] = tt
-tell_each new (out ∷ outs) = (le_refl (length new.history), tell_each new outs)
+few_each : (new : State) (outs : List OwnedOut) → ShowFew (length new.history) (each_telling new outs)
+few_each new [] = tt
+few_each new (out ∷ outs) = (le_refl (length new.history), few_each new outs)
 
-none_owed : (most : ℕ) (owed : List (State × OwnedOut)) → owed ≡ [] → TellFew most owed
-none_owed most owed is = subst (TellFew most) (sym is) tt
+none_owed : (most : ℕ) (owed : List (State × OwnedOut)) → owed ≡ [] → ShowFew most owed
+none_owed most owed is = subst (ShowFew most) (sym is) tt
 
-tell_more : (few most : ℕ) (owed : List (State × OwnedOut)) → few ≤ most → TellFew few owed → TellFew most owed
-tell_more few most [] less tell = tt
-tell_more few most (send ∷ owed) less tell = let first = tell.0 in (omega (arith, less, first), tell_more few most owed less tell.1)
+few_grow : (few most : ℕ) (owed : List (State × OwnedOut)) → few ≤ most → ShowFew few owed → ShowFew most owed
+few_grow few most [] less tell = tt
+few_grow few most (send ∷ owed) less tell = let first = tell.0 in (omega (arith, less, first), few_grow few most owed less tell.1)
 
-tell_both : (most : ℕ) (xs ys : List (State × OwnedOut)) → TellFew most xs → TellFew most ys → TellFew most (xs ++ ys)
-tell_both most [] ys tell more = more
-tell_both most (send ∷ xs) ys tell more = (tell.0, tell_both most xs ys tell.1 more)
+few_both : (most : ℕ) (xs ys : List (State × OwnedOut)) → ShowFew most xs → ShowFew most ys → ShowFew most (xs ++ ys)
+few_both most [] ys tell more = more
+few_both most (send ∷ xs) ys tell more = (tell.0, few_both most xs ys tell.1 more)
 
 -- the history that a chain of turns comes to has what each of them left
-tell_fronts : (settings : SettingsValue) (conn : ℕ) (state : State) (turns : List (Turn State)) (new : State) → Chain (AnswersFront settings conn) state turns new → TellFew (length new.history) (owed_in turns)
-tell_fronts settings conn state [] new x = tt
-tell_fronts settings conn state (turn ∷ turns) new x =
+few_fronts : (settings : SettingsValue) (conn : ℕ) (state : State) (turns : List (Turn State)) (new : State) → Chain (AnswersFront settings conn) state turns new → ShowFew (length new.history) (owed_in turns)
+few_fronts settings conn state [] new x = tt
+few_fronts settings conn state (turn ∷ turns) new x =
     let more = fronts_grow settings conn turn.left turns new x.1 in
     let size = ap length more.1 in
     let sum = length-append turn.left.history more.0 in
-    tell_both (length new.history) (each_telling turn.left turn.sends) (owed_in turns)
-    (tell_more (length turn.left.history) (length new.history) (each_telling turn.left turn.sends) (omega (arith, size, sum)) (tell_each turn.left turn.sends))
-    (tell_fronts settings conn turn.left turns new x.1)
+    few_both (length new.history) (each_telling turn.left turn.sends) (owed_in turns)
+    (few_grow (length turn.left.history) (length new.history) (each_telling turn.left turn.sends) (omega (arith, size, sum)) (few_each turn.left turn.sends))
+    (few_fronts settings conn turn.left turns new x.1)
 
-tell_turns : (settings : SettingsValue) (conn : ℕ) (state : State) (turns : List (Turn State)) (new : State) → Takes settings conn state turns new → TellFew (length new.history) (owed_in turns)
-tell_turns settings conn state turns new x =
+few_turns : (settings : SettingsValue) (conn : ℕ) (state : State) (turns : List (Turn State)) (new : State) → Takes settings conn state turns new → ShowFew (length new.history) (owed_in turns)
+few_turns settings conn state turns new x =
     let last : Turn State = record { sends = x.notices; left = new } in
-    let size = ap length (told_history settings x.rested new x.notices x.notified) in
-    subst (TellFew (length new.history)) (sym (ap owed_in x.turns_are ∙ owed_then x.answered (last ∷ [])))
-    (tell_both (length new.history) (owed_in x.answered) (owed_in (last ∷ []))
-    (tell_more (length x.rested.history) (length new.history) (owed_in x.answered) (omega (arith, size)) (tell_fronts settings conn state x.answered x.rested x.fronts))
-    (tell_both (length new.history) (each_telling new x.notices) [] (tell_each new x.notices) tt))
+    let size = ap length (notified_history settings x.rested new x.notices x.notified) in
+    subst (ShowFew (length new.history)) (sym (ap owed_in x.turns_are ∙ owed_then x.answered (last ∷ [])))
+    (few_both (length new.history) (owed_in x.answered) (owed_in (last ∷ []))
+    (few_grow (length x.rested.history) (length new.history) (owed_in x.answered) (omega (arith, size)) (few_fronts settings conn state x.answered x.rested x.fronts))
+    (few_both (length new.history) (each_telling new x.notices) [] (few_each new x.notices) tt))
 
 -- the sends of a step tell no more than the history after it has
-pub step_tells : (settings : SettingsValue) (old : State) (what : Event) (at : ℕ) (owed : List (State × OwnedOut)) (new : State) → Step settings old what at owed new → TellFew (length new.history) owed
-step_tells settings old (event.Datagram peer datagram) at owed new step = subst (TellFew (length new.history)) (sym step.1) (tell_each new step.0)
-step_tells settings old event.End at owed new step = none_owed _ owed step.0
-step_tells settings old event.Failed at owed new step = none_owed _ owed step.0
-step_tells settings old (event.Opened c p) at owed new step = subst (TellFew (length new.history)) (sym step.1) (tell_each new step.0)
-step_tells settings old (event.Piece c p) at owed new step = subst (TellFew (length new.history)) (sym step.1) (tell_turns settings c (receiving c p (later old at)) step.0 new step.2)
-step_tells settings old (event.Closed c) at owed new step = none_owed _ owed step.0
-step_tells settings old event.Tick at owed new step = subst (TellFew (length new.history)) (sym step.1) (tell_each new step.0)
-step_tells settings old event.Restart at owed new step = none_owed _ owed step.0
+pub step_shows_few : (settings : SettingsValue) (old : State) (what : Event) (at : ℕ) (owed : List (State × OwnedOut)) (new : State) → Step settings old what at owed new → ShowFew (length new.history) owed
+step_shows_few settings old (event.Datagram peer datagram) at owed new step = subst (ShowFew (length new.history)) (sym step.1) (few_each new step.0)
+step_shows_few settings old event.End at owed new step = none_owed _ owed step.0
+step_shows_few settings old event.Failed at owed new step = none_owed _ owed step.0
+step_shows_few settings old (event.Opened c p) at owed new step = subst (ShowFew (length new.history)) (sym step.1) (few_each new step.0)
+step_shows_few settings old (event.Piece c p) at owed new step = subst (ShowFew (length new.history)) (sym step.1) (few_turns settings c (receiving c p (later old at)) step.0 new step.2)
+step_shows_few settings old (event.Closed c) at owed new step = none_owed _ owed step.0
+step_shows_few settings old event.Tick at owed new step = subst (ShowFew (length new.history)) (sym step.1) (few_each new step.0)
+step_shows_few settings old event.Restart at owed new step = none_owed _ owed step.0
 
 abbrev Grows : State → State → Type 0
 Grows old new = (extra : List Entry) × (new.history ≡ old.history ++ extra)
@@ -533,7 +533,7 @@ module _ (settings : SettingsValue) (start : State) where
     few_shown m =
         let told = here.bounded m in
         let more_there = longer in
-        shown_sends m moment owed more (shown m acts trace first_entries) (length new.history) gives (omega (arith, told, more_there)) (tell_each new outs)
+        shown_sends m moment owed more (shown m acts trace first_entries) (length new.history) gives (omega (arith, told, more_there)) (few_each new outs)
 
     -- and then the new ones alone
     sent : (m : ℕ) (image : ℕ → ℕ) → past_of a < m → After image → Whole m image

@@ -12,9 +12,9 @@ use Rattle.dots_history.specs.declared.status.Status.TheVariants.{Ended, Open, W
 use Rattle.dots_history.specs.Histories.{Mitigation, mitigations, held}
 use Rattle.dots_history.specs.Rows.{is_lost_in}
 use Rattle.dots_history.specs.Keeping.{is_open}
-use Rattle.dots_laws.specs.Tables.{Client}
-use Rattle.dots_laws.specs.Views.{mitigations_of}
-use Rattle.dots_heads.specs.declared.request.Content.{Content}
+use Rattle.dots_history.specs.Tables.{Client}
+use Rattle.dots_history.specs.Views.{mitigations_of}
+use Rattle.dots_keys.specs.declared.head_request.Content.{Content}
 use Rattle.dots_keys.specs.declared.request.Request.{Request}
 use Rattle.dots_keys.specs.declared.request.Request.TheVariants as request
 use Rattle.conflict_rules.specs.ByMid.{has_mid}
@@ -26,18 +26,18 @@ use Rattle.conflict_rules.specs.Judgements.{IsTaken, HasMid}
 use Rattle.conflict_rules.specs.Statuses.{status_by, works_for, view_with, is_standing}
 use Rattle.conflict_rules.proofs.Rules.{collides_taken, taken_collides, mid_stands, there_mid}
 use Rattle.conflict_rules.proofs.JudgedByPlaces.{judged_by_places, places_judge}
-use Rattle.coap_replies.specs.declared.exchange.Exchange.{Exchange}
+use Rattle.dots_keys.specs.declared.exchange.Exchange.{Exchange}
 use Rattle.dots_machine.specs.declared.received.Received.{Received}
 use Rattle.dots_machine.specs.declared.received.Received.TheVariants as received
 use Rattle.dots_machine.specs.declared.client_request.ClientRequest.{ClientRequest}
 use Rattle.dots_machine.specs.declared.mitigation_request.MitigationRequest.{MitigationRequest}
 use Rattle.dots_machine.specs.Verdict.{Verdict}
 use Rattle.dots_machine.specs.Domains.{domain_for, config_domain}
-use Rattle.target_rules.specs.Targets.{scope_fault}
+use Rattle.conflict_rules.specs.AskableTargets.{scope_fault}
 use Rattle.dots_machine.specs.MessageRepeats.{Sent, sent_for, Repeats, unless_repeated}
 use Rattle.dots_keys.specs.declared.request.ConfigBody.{ConfigBody}
 use Rattle.session_core.specs.Negotiating.{negotiated}
-use Rattle.dots_machine.specs.Sessions.{sid_of, is_held}
+use Rattle.dots_machine.specs.ConfiguredPeers.{sid_of, is_held}
 use Rattle.dots_machine.specs.Facts.{Facts, IsTestOf, AreFacts, stands_as, facts_of}
 use Rattle.dots_machine.specs.Mitigations.{sent_by, request_of, judged, unless_faulty, put_answer, client_for, delete_by, delete_answer, get_by, get_answer}
 use Rattle.dots_machine.specs.Deciding.{in_domain, asks_for, with_mid, put_in, put_for, delete_in, delete_for, get_for, config_answer, put_config_for, clear_answer, delete_config_for, config_view, get_config_for, answer_to}

@@ -6,7 +6,7 @@ use Rattle.dots_host.specs.declared.out.OwnedOut.{OwnedOut}
 use Rattle.dots_host.specs.declared.out.OwnedOut.TheVariants as owned
 use Rattle.dots_host.specs.Runs.{Turn, Chain, owed_in, outs_of}
 use Rattle.coap_message.specs.Message.{CoapMessage, spelling}
-use Rattle.coap_replies.specs.Exchanges.{exchange_in}
+use Rattle.dots_keys.specs.Exchanges.{exchange_in}
 use Rattle.dots_machine.specs.Replies.{unavailable}
 use Rattle.dots_settings.specs.Settings.{SettingsValue}
 use Rattle.stream_table.specs.Lines.{Line, line_of}

@@ -2,8 +2,8 @@
 use Rattle.std.specs.Prelude.{ℕ, Bool, true, false, if◌then◌else◌, List, [], Option, Some, None, Result, Ok, Err}
 use Rattle.dots_settings.specs.Settings.{SettingsValue}
 use Rattle.dots_settings.specs.Lookups.{role_of}
-use Rattle.dots_heads.specs.declared.request.Content.{Content}
-use Rattle.dots_heads.specs.declared.request.MitigationPath.{MitigationPath}
+use Rattle.dots_keys.specs.declared.head_request.Content.{Content}
+use Rattle.dots_keys.specs.declared.head_request.MitigationPath.{MitigationPath}
 use Rattle.dots_keys.specs.declared.request.Request.{Request}
 use Rattle.dots_keys.specs.declared.request.Request.TheVariants as request
 use Rattle.dots_keys.specs.declared.request.MitigationBody.{MitigationBody}
@@ -15,14 +15,14 @@ use Rattle.dots_history.specs.declared.change.Change.TheVariants as change
 use Rattle.session_core.specs.declared.negotiating.ConfigFault.{ConfigFault}
 use Rattle.session_core.specs.declared.negotiating.ConfigFault.TheVariants.{Range, OlderSid}
 use Rattle.session_core.specs.Negotiating.{negotiated}
-use Rattle.coap_replies.specs.declared.exchange.Exchange.{Exchange}
+use Rattle.dots_keys.specs.declared.exchange.Exchange.{Exchange}
 use Rattle.dots_machine.specs.declared.client_request.ClientRequest.{ClientRequest}
 use Rattle.dots_machine.specs.Verdict.{Verdict}
 use Rattle.dots_machine.specs.declared.verdict.Verdict.TheVariants as verdict
 use Rattle.dots_machine.specs.Domains.{domain_for, config_domain}
 use Rattle.dots_machine.specs.Replies.{bad_parameter, configuring, older_sid, out_of_range, configuration_reply, deleted, absent, heartbeat_reply}
 use Rattle.dots_machine.specs.MessageRepeats.{sent_for, unless_repeated}
-use Rattle.dots_machine.specs.Sessions.{Configured, sid_of, is_held}
+use Rattle.dots_machine.specs.ConfiguredPeers.{Configured, sid_of, is_held}
 use Rattle.dots_machine.specs.Facts.{Facts}
 use Rattle.dots_machine.specs.Mitigations.{sent_by, key_of, put_answer, delete_answer, get_answer}
 

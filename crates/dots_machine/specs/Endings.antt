@@ -7,12 +7,12 @@ use Rattle.dots_host.specs.Acts.{WireAct, took, Timed}
 use Rattle.dots_host.specs.Runs.{Owing, resting, Turn, owed_in, each_telling, outs_of, Added, GoOn, EndsBy, events_in}
 use Rattle.dots_host.specs.Writing.{AppendsBeginning, Writes}
 use Rattle.dots_settings.specs.declared.fault.SettingsFault.{SettingsFault}
-use Rattle.dots_settings.specs.Settings.{SettingsValue}
+use Rattle.dots_settings.specs.Settings.{SettingsValue, IsSettings}
 use Rattle.dots_settings.specs.File.{SettingsAre, SettingsFail, IsNoLineFault}
 use Rattle.dots_settings.specs.FaultText.{fault_text}
-use Rattle.dots_disk.specs.Media.{Media}
-use Rattle.dots_disk.specs.Becoming.{Leaves, RestsWith}
-use Rattle.dots_disk.specs.Beside.{KeepsActs}
+use Rattle.dots_host.specs.Media.{Media}
+use Rattle.dots_host.specs.Becoming.{Leaves, RestsWith}
+use Rattle.dots_host.specs.Beside.{KeepsActs}
 use Rattle.slot_store.specs.Opening.{Is}
 use Rattle.slot_store.specs.Gates.{Sees}
 use Rattle.slot_store.specs.Layout.{needed_of}
@@ -21,13 +21,14 @@ use Rattle.slot_journal.specs.declared.fault.JournalFault.{JournalFault}
 use Rattle.slot_journal.specs.declared.fault.JournalFault.TheVariants as faults
 use Rattle.slot_journal.specs.DiskEntries.{HasEntries}
 use Rattle.dots_history.specs.declared.entry.Entry.{Entry}
-use Rattle.dots_laws.specs.Fits.{is_calm}
+use Rattle.dots_history.specs.Fits.{is_calm}
+use Rattle.slot_journal.specs.Refused.{IsNoSize, IsSmallBy}
 use Rattle.slot_journal.specs.Untaken.{RefusesLedger, IsFailure}
 use Rattle.hex.specs.Hex.{encode_lower}
-use Rattle.plain_text.specs.HexText.{IsHex}
+use Rattle.dots_lists.specs.HexText.{IsHex}
 use Rattle.coap_message.specs.Message.{CoapMessage, IsMessage, spelling}
-use Rattle.message_text.specs.declared.printing.Printed.TheVariants as printed
-use Rattle.message_text.specs.Printing.{IsPrinted}
+use Rattle.coap_message.specs.declared.printing.Printed.TheVariants as printed
+use Rattle.coap_message.specs.Printing.{IsPrinted}
 use Rattle.dots_machine.specs.declared.ending.Ending.{Ending}
 use Rattle.dots_machine.specs.declared.ending.Ending.TheVariants as ending
 use Rattle.dots_machine.specs.declared.ending.Printing.{Printing}
@@ -123,12 +124,12 @@ pub record Ran (settings : SettingsValue) (start : State) (trace : List State) (
   pub whole : List Timed
   pub behind : List Timed
   pub acts_are : acts ≡ whole ++ behind
-  pub told : List State
-  pub told_behind : List State
-  pub trace_is : trace ≡ told ++ told_behind
+  pub states : List State
+  pub states_behind : List State
+  pub trace_is : trace ≡ states ++ states_behind
   pub state : State
-  pub run : Story settings (resting start) whole told (resting state)
-  pub ends : EndsBehind how settings state told_behind end behind
+  pub run : Story settings (resting start) whole states (resting state)
+  pub ends : EndsBehind how settings state states_behind end behind
   pub stops : Stops how acts
 
 -- What holds of a run from the one state to the other, by what becomes of its events: each adds an entry exactly where the rules accept what came; each answers a
@@ -169,6 +170,11 @@ abbrev pub IsFound : Stop → Type 0
 IsFound (stop.Unrecovered fault) = IsFailure fault
 IsFound _ = ⊤
 
+-- a disk that wasn't recovered at a restart wasn't refused for its size
+abbrev pub IsSized : Stop → Type 0
+IsSized (stop.Unrecovered fault) = IsNoSize fault
+IsSized _ = ⊤
+
 -- What is said of the acts of a server with these settings that began from a state: they are a run of the machine, which owes nothing in the
 -- end, but where the disk failed in the middle of an event; its whole events keep the laws, however it ends; and where nothing was pending on
 -- the disk at the start, a crash at any moment leaves a disk that means a front of the history, with all that was told before.
@@ -196,6 +202,7 @@ pub record Serves (settings : SettingsValue) (how : Stop) (before now : Outside)
   pub calm : is_calm settings stored ≡ true
   pub was_stored : (seen : ℕ → ℕ) → Sees before.media seen → HasEntries settings seen stored
   pub runs_from : IsKnown before now → RunsFrom settings stored how before now wrote
+  pub sized : IsSized how
   pub any : (state : State) × Contained settings state × wrote state
 
 -- where a disk is refused for what it holds its line is written, the whole of it or, where the sink failed, a beginning; and nothing where the
@@ -227,8 +234,10 @@ pub record Unrecovers (settings : SettingsValue) (fault : JournalFault) (before 
   pub moments : (seen : ℕ → ℕ) (entries : List Entry) → RestsWith before.media (Is seen) → HasEntries settings seen entries
       → Leaves before.media now.media (λ image. HasEntries settings image entries)
   pub unwritten : (seen : ℕ → ℕ) → fault ≢ faults.DiskFault → RestsWith before.media (Is seen) → RestsWith now.media (Is seen) ⊎ ((entries : List Entry) × HasEntries settings seen entries)
+  pub valid : IsSettings settings
+  pub small : IsSmallBy settings before.extent fault
   pub failed : IsDiskFailure fault before now
-  pub told : WritesRefusal fault before.written now.written (ReportFailed before now)
+  pub refusal : WritesRefusal fault before.written now.written (ReportFailed before now)
 
 -- How a run that came to its host served: the disk wasn't recovered; or the whole report is written, or a beginning of it.
 abbrev pub ServesTo : Ending → SettingsValue → Outside → Outside → Type 0

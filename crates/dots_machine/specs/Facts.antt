@@ -5,7 +5,7 @@ use Rattle.dots_settings.specs.Settings.{SettingsValue}
 use Rattle.dots_history.specs.declared.entry.Entry.{Entry}
 use Rattle.dots_history.specs.declared.put.Put.{Put}
 use Rattle.dots_history.specs.Histories.{remembered}
-use Rattle.dots_laws.specs.Tables.{Client}
+use Rattle.dots_history.specs.Tables.{Client}
 use Rattle.conflict_rules.specs.declared.fault.PutFault.{PutFault}
 use Rattle.conflict_rules.specs.declared.judging.Judged.{Judged}
 use Rattle.conflict_rules.specs.Requests.{Request}
@@ -14,7 +14,7 @@ use Rattle.conflict_rules.specs.Statuses.{views_in, is_standing}
 use Rattle.conflict_rules.specs.ByHistory.{collides, judge_request}
 use Rattle.conflict_rules.specs.Judgements.{IsTaken, HasMid, IsJudged}
 use Rattle.dots_machine.specs.MessageRepeats.{Sent, Repeats}
-use Rattle.dots_machine.specs.Sessions.{Configured, configured_in}
+use Rattle.dots_machine.specs.ConfiguredPeers.{Configured, configured_in}
 
 pub record Facts : Type 0 where
   pub time : ℕ

@@ -3,7 +3,7 @@ pub mod Requests
 pub mod Replies
 pub mod Verdict
 pub mod MessageRepeats
-pub mod Sessions
+pub mod ConfiguredPeers
 pub mod Signals
 pub mod Facts
 pub mod Mitigations

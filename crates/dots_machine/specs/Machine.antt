@@ -13,36 +13,36 @@ use Rattle.coap_message.specs.Breaks.{Breaks}
 use Rattle.dots_settings.specs.Settings.{SettingsValue}
 use Rattle.dots_settings.specs.Lookups.{role_of}
 use Rattle.dots_history.specs.declared.entry.Entry.{Entry}
-use Rattle.dots_laws.specs.Fits.{last_time}
+use Rattle.dots_history.specs.Fits.{last_time}
 use Rattle.coap_observe.specs.Observed.{ObservedValue}
 use Rattle.coap_observe.specs.Seen.{Lists}
 use Rattle.session_core.specs.declared.contact.PeerContact.{PeerContact}
 use Rattle.session_core.specs.Contacts.{unheard, heard_from}
 use Rattle.session_core.specs.Beating.{Beating}
-use Rattle.dots_notices.specs.Beats.{beats, after_beats}
-use Rattle.dots_notices.specs.Notifying.{Notifies}
+use Rattle.session_core.specs.Beats.{beats, after_beats}
+use Rattle.session_core.specs.Notifying.{Notifies}
 use Rattle.stream_table.specs.declared.refused.Refused.{Refused}
 use Rattle.stream_table.specs.Lines.{PeerLines, no_lines, opened, opening, forgotten}
 use Rattle.rest_answers.specs.Turns.{HttpTurn, with_piece, Rests}
-use Rattle.dots_heads.specs.declared.reject.Reject.{Reject}
-use Rattle.dots_heads.specs.declared.reject.Reject.TheVariants as reject
-use Rattle.dots_heads.specs.Heads.{head_of}
+use Rattle.dots_keys.specs.declared.reject.Reject.{Reject}
+use Rattle.dots_keys.specs.declared.reject.Reject.TheVariants as reject
+use Rattle.dots_keys.specs.Heads.{head_of}
 use Rattle.dots_keys.specs.declared.request.Request.{Request}
-use Rattle.coap_replies.specs.declared.exchange.Exchange.{Exchange}
-use Rattle.coap_replies.specs.declared.dismissal.Dismissal.{Dismissal}
-use Rattle.coap_replies.specs.declared.dismissal.Dismissal.TheVariants as dismissal
+use Rattle.dots_keys.specs.declared.exchange.Exchange.{Exchange}
+use Rattle.dots_keys.specs.declared.dismissal.Dismissal.{Dismissal}
+use Rattle.dots_keys.specs.declared.dismissal.Dismissal.TheVariants as dismissal
 use Rattle.dots_machine.specs.declared.received.Received.{Received}
 use Rattle.dots_machine.specs.declared.received.Received.TheVariants as received
 use Rattle.dots_machine.specs.Verdict.{Verdict}
 use Rattle.dots_machine.specs.declared.verdict.Verdict.TheVariants as verdict
 use Rattle.dots_machine.specs.Domains.{is_gateway, is_stranger}
-use Rattle.coap_replies.specs.Exchanges.{exchange_in, dismissed}
+use Rattle.dots_keys.specs.Exchanges.{exchange_in, dismissed}
 use Rattle.dots_machine.specs.Requests.{IsReceived}
-use Rattle.coap_replies.specs.Replies.{reset_message, rejection}
+use Rattle.dots_keys.specs.Replies.{reset_message, rejection}
 use Rattle.dots_machine.specs.Replies.{unavailable, showing}
 use Rattle.dots_machine.specs.declared.watching.Watching.{Watching}
 use Rattle.dots_machine.specs.Observing.{Watches, seen_at, bodies_at, number_of, observing}
-use Rattle.dots_machine.specs.Sessions.{beating_at}
+use Rattle.dots_machine.specs.ConfiguredPeers.{beating_at}
 use Rattle.dots_machine.specs.Signals.{back_of, last_heard, history_lapsed, rows_lapsed}
 use Rattle.dots_machine.specs.Facts.{Facts, AreFacts, facts_of}
 use Rattle.dots_machine.specs.Deciding.{answer_to}
@@ -211,13 +211,13 @@ lapsed settings state = record state {
   contacts = rows_lapsed settings state.time state.history state.contacts;
 }
 
--- at a tick signals are lost, the observers that are due are told, and then the heartbeats are sent
+-- at a tick signals are lost, the observers that are due are notified, and then the heartbeats are sent
 pub record Ticks (settings : SettingsValue) (state : State) (sends : List OwnedOut) (new : State) : Type 0 where
   pub notices : List OwnedOut
-  pub told : State
-  pub notified : Notified settings (lapsed settings state) notices told
+  pub between : State
+  pub notified : Notified settings (lapsed settings state) notices between
   pub heartbeats : List OwnedOut
-  pub beaten : Beats settings told heartbeats new
+  pub beaten : Beats settings between heartbeats new
   pub sends_are : sends ≡ notices ++ heartbeats
 
 -- ---- connections to the data channel

@@ -9,21 +9,21 @@ use Rattle.dots_history.specs.declared.entry.MessageKey.{MessageKey}
 use Rattle.dots_history.specs.declared.entry.MessageKey.TheVariants as key
 use Rattle.dots_history.specs.declared.change.Change.{Change}
 use Rattle.dots_history.specs.declared.change.Change.TheVariants as change
-use Rattle.dots_laws.specs.Tables.{Client}
-use Rattle.dots_heads.specs.declared.request.Content.{Content}
+use Rattle.dots_history.specs.Tables.{Client}
+use Rattle.dots_keys.specs.declared.head_request.Content.{Content}
 use Rattle.conflict_rules.specs.LiveViews.{LiveView}
 use Rattle.reply_bodies.specs.declared.conflict.ConflictCause.TheVariants as cause
 use Rattle.conflict_rules.specs.declared.fault.PutFault.{PutFault}
 use Rattle.conflict_rules.specs.declared.fault.PutFault.TheVariants as faults
 use Rattle.conflict_rules.specs.declared.judging.Judged.{Judged}
 use Rattle.conflict_rules.specs.Requests.{Request}
-use Rattle.target_rules.specs.declared.target.TargetFault.{TargetFault}
-use Rattle.coap_replies.specs.declared.exchange.Exchange.{Exchange}
+use Rattle.conflict_rules.specs.declared.target.TargetFault.{TargetFault}
+use Rattle.dots_keys.specs.declared.exchange.Exchange.{Exchange}
 use Rattle.dots_machine.specs.declared.mitigation_request.MitigationRequest.{MitigationRequest}
 use Rattle.dots_machine.specs.declared.client_request.ClientRequest.{ClientRequest}
 use Rattle.dots_machine.specs.Verdict.{Verdict}
 use Rattle.dots_machine.specs.declared.verdict.Verdict.TheVariants as verdict
-use Rattle.target_rules.specs.Targets.{scope_fault}
+use Rattle.conflict_rules.specs.AskableTargets.{scope_fault}
 use Rattle.dots_machine.specs.MessageRepeats.{Sent, sent_for, unless_repeated}
 use Rattle.dots_machine.specs.Facts.{Facts}
 use Rattle.dots_machine.specs.Replies.{granting, conflicting, deleted, retrieved_body, absent, bad_target, bad_request, at_capacity, unavailable}

@@ -15,17 +15,17 @@ use Rattle.conflict_rules.specs.Statuses.{views_in}
 use Rattle.dots_settings.specs.Settings.{SettingsValue}
 use Rattle.dots_settings.specs.Lookups.{role_of}
 use Rattle.dots_history.specs.declared.entry.Entry.{Entry}
-use Rattle.dots_heads.specs.declared.reject.Reject.{Reject}
-use Rattle.dots_heads.specs.declared.request.Content.{Content}
-use Rattle.dots_heads.specs.declared.request.MitigationPath.{MitigationPath}
-use Rattle.dots_heads.specs.declared.request.Observe.{Observe}
-use Rattle.dots_heads.specs.declared.request.Observe.TheVariants as observe
-use Rattle.dots_heads.specs.Heads.{Head, head_of}
-use Rattle.dots_heads.specs.Operations.{Operation, get_mitigation}
-use Rattle.dots_notices.specs.Notifying.{Bodies}
-use Rattle.coap_replies.specs.declared.dismissal.Dismissal.{Dismissal}
-use Rattle.coap_replies.specs.declared.dismissal.Dismissal.TheVariants as dismissal
-use Rattle.coap_replies.specs.declared.exchange.Exchange.{Exchange}
+use Rattle.dots_keys.specs.declared.reject.Reject.{Reject}
+use Rattle.dots_keys.specs.declared.head_request.Content.{Content}
+use Rattle.dots_keys.specs.declared.head_request.MitigationPath.{MitigationPath}
+use Rattle.dots_keys.specs.declared.head_request.Observe.{Observe}
+use Rattle.dots_keys.specs.declared.head_request.Observe.TheVariants as observe
+use Rattle.dots_keys.specs.Heads.{Head, head_of}
+use Rattle.dots_keys.specs.Operations.{Operation, get_mitigation}
+use Rattle.session_core.specs.Notifying.{Bodies}
+use Rattle.dots_keys.specs.declared.dismissal.Dismissal.{Dismissal}
+use Rattle.dots_keys.specs.declared.dismissal.Dismissal.TheVariants as dismissal
+use Rattle.dots_keys.specs.declared.exchange.Exchange.{Exchange}
 use Rattle.dots_machine.specs.declared.received.Received.{Received}
 use Rattle.dots_machine.specs.declared.received.Received.TheVariants as received
 use Rattle.dots_keys.specs.declared.request.Request.TheVariants as request
@@ -34,7 +34,7 @@ use Rattle.dots_machine.specs.declared.watching.Watching.TheVariants as watching
 use Rattle.dots_machine.specs.Verdict.{Verdict}
 use Rattle.dots_machine.specs.declared.verdict.Verdict.TheVariants as verdict
 use Rattle.dots_machine.specs.Domains.{is_gateway, is_stranger, domain_for}
-use Rattle.coap_replies.specs.Exchanges.{exchange_in, dismissed}
+use Rattle.dots_keys.specs.Exchanges.{exchange_in, dismissed}
 use Rattle.dots_machine.specs.Mitigations.{is_wanted}
 use Rattle.dots_machine.specs.Replies.{retrieved_body}
 

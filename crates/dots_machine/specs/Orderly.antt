@@ -4,7 +4,7 @@ use Rattle.dots_history.specs.declared.entry.Entry.{Entry}
 use Rattle.dots_history.specs.declared.put.Put.{Put}
 use Rattle.dots_history.specs.declared.change.Change.TheVariants as change
 use Rattle.dots_history.specs.Entries.{ends, targets_meet}
-use Rattle.dots_laws.specs.Fits.{last_time}
+use Rattle.dots_history.specs.Fits.{last_time}
 use Rattle.conflict_rules.specs.Judgements.{StandsIn}
 use Rattle.dots_machine.specs.Machine.{State}
 

@@ -3,7 +3,7 @@
 use Rattle.std.specs.Prelude.{ℕ, List, Option}
 use Rattle.dots_host.specs.Acts.{Timed}
 use Rattle.dots_host.specs.Causes.{Rose}
-use Rattle.dots_disk.specs.Media.{Media}
+use Rattle.dots_host.specs.Media.{Media}
 
 pub record Outside : Type 0 where
   pub left : Option (List ℕ)

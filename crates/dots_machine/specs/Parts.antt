@@ -6,7 +6,7 @@ use Rattle.dots_history.specs.declared.entry.Entry.{Entry}
 use Rattle.dots_history.specs.Histories.{alone}
 use Rattle.session_core.specs.Contacts.{unheard}
 use Rattle.dots_machine.specs.Signals.{own_domain, LastHeard, last_heard, is_silent, is_watched, loss_of, history_lapsed, back_of}
-use Rattle.dots_machine.specs.Sessions.{beating_at}
+use Rattle.dots_machine.specs.ConfiguredPeers.{beating_at}
 use Rattle.dots_machine.specs.Machine.{State}
 
 pub record Part : Type 0 where

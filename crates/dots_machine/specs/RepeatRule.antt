@@ -8,7 +8,7 @@ use Rattle.dots_settings.specs.Lookups.{prefixes_of}
 use Rattle.dots_keys.specs.declared.request.Request.{Request}
 use Rattle.dots_keys.specs.declared.request.Request.TheVariants as request
 use Rattle.dots_machine.specs.Domains.{domain_for, config_domain}
-use Rattle.target_rules.specs.Targets.{scope_fault}
+use Rattle.conflict_rules.specs.AskableTargets.{scope_fault}
 
 -- A peer of this role asks to change what is kept of this domain, and nothing is wrong with the form of that: it is a PUT of a mitigation for
 -- what may be asked for, a DELETE of one, or a PUT or DELETE of a session configuration.

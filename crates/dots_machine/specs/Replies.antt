@@ -4,9 +4,9 @@ use Rattle.cbor_profile.specs.Canon.{canon}
 use Rattle.cbor_profile.specs.Tree.{Tree, unsigned}
 use Rattle.coap_message.specs.declared.codes.TheConstants.{CREATED, DELETED, CHANGED, CONTENT, BAD_REQUEST, NOT_FOUND, CONFLICT, UNPROCESSABLE_ENTITY, INTERNAL_SERVER_ERROR, SERVICE_UNAVAILABLE}
 use Rattle.coap_message.specs.Message.{CoapOption, spelling}
-use Rattle.dots_heads.specs.declared.reject.Reject.TheVariants as reject
-use Rattle.dots_heads.specs.declared.request.Content.{Content}
-use Rattle.dots_heads.specs.declared.request.Content.TheVariants.{Config, State}
+use Rattle.dots_keys.specs.declared.reject.Reject.TheVariants as reject
+use Rattle.dots_keys.specs.declared.head_request.Content.{Content}
+use Rattle.dots_keys.specs.declared.head_request.Content.TheVariants.{Config, State}
 use Rattle.reply_bodies.specs.declared.conflict.ConflictCause.{ConflictCause}
 use Rattle.reply_bodies.specs.declared.keys.TheConstants.{MID, LIFETIME, MITIGATION_START, STATUS}
 use Rattle.reply_bodies.specs.declared.reply.Reply.TheVariants as reply
@@ -18,13 +18,13 @@ use Rattle.conflict_rules.specs.declared.judging.Judged.{Judged}
 use Rattle.dots_history.specs.declared.config.Values.{Values}
 use Rattle.reply_bodies.specs.declared.session.Current.{Current}
 use Rattle.reply_bodies.specs.declared.session.SessionView.{SessionView}
-use Rattle.target_rules.specs.declared.target.TargetFault.{TargetFault}
-use Rattle.dots_notices.specs.Notices.{observe}
-use Rattle.coap_replies.specs.declared.exchange.Exchange.{Exchange}
-use Rattle.target_rules.specs.Targets.{target_text}
-use Rattle.coap_replies.specs.Exchanges.{reply_kind}
-use Rattle.coap_replies.specs.Replies.{plain, dots_cbor, with_body, rejection}
-use Rattle.dots_machine.specs.Sessions.{Configured, sid_of, config_in}
+use Rattle.conflict_rules.specs.declared.target.TargetFault.{TargetFault}
+use Rattle.session_core.specs.Notices.{observe}
+use Rattle.dots_keys.specs.declared.exchange.Exchange.{Exchange}
+use Rattle.conflict_rules.specs.AskableTargets.{target_text}
+use Rattle.dots_keys.specs.Exchanges.{reply_kind}
+use Rattle.dots_keys.specs.Replies.{plain, dots_cbor, with_body, rejection}
+use Rattle.dots_machine.specs.ConfiguredPeers.{Configured, sid_of, config_in}
 
 -- 2.04 Changed where a mitigation that stands is refreshed, and else 2.01 Created (section 4.4.1.3)
 abbrev pub grant_code : Bool → ℕ

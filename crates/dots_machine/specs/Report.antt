@@ -11,13 +11,13 @@ use Rattle.acl_lists.specs.declared.ace.Ace.{Ace}
 use Rattle.acl_lists.specs.declared.packet.Packet.{Packet}
 use Rattle.acl_lists.specs.declared.port_test.PortTest.{PortTest}
 use Rattle.acl_lists.specs.declared.port_test.PortTest.TheVariants.{Any, Eq, Neq, Lte, Gte, Range}
-use Rattle.filter_rows.specs.declared.rows.ScrubRow.{ScrubRow}
-use Rattle.filter_rows.specs.declared.rows.AclRow.{AclRow}
-use Rattle.filter_rows.specs.Fates.{Fate, Pass, Accepted, Dropped, Scrubbed}
+use Rattle.acl_lists.specs.declared.rows.ScrubRow.{ScrubRow}
+use Rattle.acl_lists.specs.declared.rows.AclRow.{AclRow}
+use Rattle.acl_lists.specs.Fates.{Fate, Pass, Accepted, Dropped, Scrubbed}
 use Rattle.dots_settings.specs.Settings.{SettingsValue}
 use Rattle.dots_settings.specs.Lookups.{name_of, prefixes_of}
 use Rattle.dots_history.specs.Rows.{plain_rows, acl_rows, fate}
-use Rattle.dots_laws.specs.Containing.{scrubs_inside, lists_inside}
+use Rattle.dots_history.specs.Containing.{scrubs_inside, lists_inside}
 use Rattle.dots_machine.specs.Machine.{State}
 
 -- texts with commas between them, or `any` where there are none

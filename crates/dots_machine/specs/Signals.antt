@@ -9,13 +9,13 @@ use Rattle.dots_history.specs.declared.change.Change.{Change}
 use Rattle.dots_history.specs.declared.change.Change.TheVariants as change
 use Rattle.dots_history.specs.declared.entry.MessageKey.TheVariants as key
 use Rattle.dots_history.specs.Histories.{held, alone}
-use Rattle.dots_laws.specs.Held.{is_lost_of}
-use Rattle.dots_laws.specs.HistoryReading.{is_waiting}
+use Rattle.dots_history.specs.Held.{is_lost_of}
+use Rattle.dots_history.specs.HistoryReading.{is_waiting}
 use Rattle.session_core.specs.declared.contact.Session.{Session}
 use Rattle.session_core.specs.declared.contact.PeerContact.{PeerContact}
 use Rattle.session_core.specs.Contacts.{session_of, row_begun}
 use Rattle.session_core.specs.Spacing.{without_lost}
-use Rattle.dots_machine.specs.Sessions.{beating_at}
+use Rattle.dots_machine.specs.ConfiguredPeers.{beating_at}
 
 -- the domain of a client's peer
 abbrev pub domain_of_client : Role → Option ℕ

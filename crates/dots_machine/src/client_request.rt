@@ -1,4 +1,4 @@
-use coap_replies::Exchange;
+use dots_keys::Exchange;
 use dots_lists::Name;
 
 /// Who asks for a client, and for which domain (RFC 9132, section 4.4.1).

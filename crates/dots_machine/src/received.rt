@@ -1,6 +1,4 @@
-use coap_replies::{Dismissal, Exchange};
-use dots_heads::Reject;
-use dots_keys::Request;
+use dots_keys::{Dismissal, Exchange, Reject, Request};
 
 /// What a datagram is.
 #[derive(Drop)]

@@ -1,4 +1,4 @@
-use coap_replies::{Exchange, ShortMessage};
+use dots_keys::{Exchange, ShortMessage};
 use dots_lists::Bytes;
 
 /// What is decided on a datagram. An accepted entry is an `E`: the entry alone, or one beside which stands what it takes to carry it out.

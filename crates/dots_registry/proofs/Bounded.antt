@@ -17,11 +17,11 @@ use Rattle.dots_history.specs.declared.change.Change.TheVariants as change
 use Rattle.dots_history.specs.Entries.{put_of, is_loss}
 use Rattle.dots_history.specs.Histories.{is_nil, held}
 use Rattle.dots_history.specs.Bounds.{asked_within, alias_within, target_within, prefix_count, put_within, change_within, within_bounds}
-use Rattle.dots_laws.specs.Tables.{Client}
+use Rattle.dots_history.specs.Tables.{Client}
 use Rattle.conflict_rules.specs.declared.live.Live.{Live}
 use Rattle.conflict_rules.specs.ByMid.{has_mid}
 use Rattle.conflict_rules.specs.Lives.{put_or_nothing, lives_of}
-use Rattle.dots_laws.specs.Held.{alias_of, aliases_of}
+use Rattle.dots_history.specs.Held.{alias_of, aliases_of}
 use Rattle.conflict_rules.specs.declared.judging.Judged.{Judged}
 use Rattle.conflict_rules.specs.Requests.{Request}
 use Rattle.conflict_rules.specs.Targets.{prefixes_asked, target_of, own_target, alias_named, alias_target, targets_of}

@@ -8,10 +8,10 @@ use Rattle.dots_settings.specs.Settings.{SettingsValue}
 use Rattle.dots_history.specs.declared.entry.Entry.{Entry}
 use Rattle.dots_history.specs.Entries.{same_client}
 use Rattle.dots_history.specs.Histories.{Mitigation, View, Within, Kept, tally}
-use Rattle.dots_laws.specs.Calm.{is_own}
-use Rattle.dots_laws.specs.Capacities.{is_alias}
-use Rattle.dots_laws.specs.Fits.{last_or, last_time, is_calm}
-use Rattle.dots_laws.proofs.CalmCuts.{calm_at_end, calm_history}
+use Rattle.dots_history.specs.Calm.{is_own}
+use Rattle.dots_history.specs.Capacities.{is_alias}
+use Rattle.dots_history.specs.Fits.{last_or, last_time, is_calm}
+use Rattle.dots_history.proofs.CalmCuts.{calm_at_end, calm_history}
 use Rattle.dots_registry.specs.Limits.{ClientsKeepLimits}
 use Rattle.dots_registry.proofs.FittingEntries as fitting
 

@@ -14,8 +14,8 @@ use Rattle.dots_lists.specs.Name.{is_name}
 use Rattle.dots_history.specs.Bounds.{within_bounds, change_within}
 use Rattle.dots_history.specs.Entries.{same_client, runs, is_unexpired, granted_at, put_of, option_any}
 use Rattle.dots_history.specs.Histories.{Mitigation, Within, live, status, tally, mitigations, held}
-use Rattle.dots_laws.specs.Calm.{is_of_settings}
-use Rattle.dots_laws.specs.Fits as laws
+use Rattle.dots_history.specs.Calm.{is_of_settings}
+use Rattle.dots_history.specs.Fits as laws
 use Rattle.live_mitigations.specs.LiveValues.{LiveValue, puts, is_inside, keeps_live_room, has_live_room}
 use Rattle.live_mitigations.specs.LiveValues as lives
 use Rattle.live_mitigations.proofs.LiveValues.{quiet_inside}

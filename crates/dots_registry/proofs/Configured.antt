@@ -17,11 +17,11 @@ use Rattle.dots_history.specs.Bounds.{change_within, within_bounds}
 use Rattle.dots_history.specs.Entries.{same_client, put_of, is_signal, is_held, is_configuration, is_loss, undoes, undoes_of_client, undoes_of_peer, reconfigures, resumes}
 use Rattle.dots_history.specs.Histories.{or_else, is_nil, stays, held, alone}
 use Rattle.dots_history.specs.Rows.{waits}
-use Rattle.dots_laws.specs.Calm.{may_configure, is_client_of, change_inside, is_http, is_own}
-use Rattle.dots_laws.specs.Capacities.{is_registration, is_alias, is_list}
-use Rattle.dots_laws.specs.Held.{config_set, config_of}
-use Rattle.dots_laws.proofs.Apart.{other_domain}
-use Rattle.dots_laws.proofs.Alone.{own_passes, other_dropped, far_resumes}
+use Rattle.dots_history.specs.Calm.{may_configure, is_client_of, change_inside, is_http, is_own}
+use Rattle.dots_history.specs.Capacities.{is_registration, is_alias, is_list}
+use Rattle.dots_history.specs.Held.{config_set, config_of}
+use Rattle.dots_history.proofs.Apart.{other_domain}
+use Rattle.dots_history.proofs.Alone.{own_passes, other_dropped, far_resumes}
 use Rattle.dots_registry.specs.RegistryValues.{RegistryValue, IsOf, Represents, time_of}
 use Rattle.dots_registry.specs.Fitting.{fits_now}
 use Rattle.dots_registry.specs.Limits.{ClientsKeepLimits}

@@ -15,10 +15,10 @@ use Rattle.dots_history.specs.declared.status.Status.TheVariants.{Ended, Open, W
 use Rattle.dots_history.specs.Entries.{same_client, put_of, ends, withdraws, replaces, is_loss}
 use Rattle.dots_history.specs.Histories.{Mitigation, live, step, status, tally, mitigations}
 use Rattle.dots_history.specs.Keeping.{moved}
-use Rattle.dots_laws.specs.Views.{mitigations_with, mitigations_of}
-use Rattle.dots_laws.proofs.Adding.{adding}
-use Rattle.dots_laws.proofs.Joining.{tally_same}
-use Rattle.dots_laws.proofs.Touching.{never_live, ends_parts}
+use Rattle.dots_history.specs.Views.{mitigations_with, mitigations_of}
+use Rattle.dots_history.proofs.Adding.{adding}
+use Rattle.dots_history.proofs.Joining.{tally_same}
+use Rattle.dots_history.proofs.Touching.{never_live, ends_parts}
 use Rattle.conflict_rules.specs.declared.live.Live.{Live}
 use Rattle.conflict_rules.specs.Wanted.{wanted}
 use Rattle.conflict_rules.specs.Live.{is_of, stands_for, would_end}

@@ -6,9 +6,9 @@ use Rattle.std.proofs.lemmas.Bool.{cond_both, cases_Bool}
 use Rattle.dots_history.specs.declared.entry.Entry.{Entry}
 use Rattle.dots_history.specs.Histories.{Mitigation, stays, held}
 use Rattle.dots_history.specs.Keeping.{names, pass, kept_by}
-use Rattle.dots_laws.specs.Capacities.{Capacities, KeepsCapacities, belongs, most_named}
-use Rattle.dots_laws.proofs.Bounding.{named_few}
-use Rattle.dots_laws.specs.Filed.{Filed, entry_of}
+use Rattle.dots_history.specs.Capacities.{Capacities, KeepsCapacities, belongs, most_named}
+use Rattle.dots_history.proofs.Bounding.{named_few}
+use Rattle.dots_history.specs.Filed.{Filed, entry_of}
 use Rattle.held_resources.specs.Rows.{rows_of}
 use Rattle.held_resources.proofs.Going.{rows_many}
 

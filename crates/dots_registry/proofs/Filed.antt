@@ -16,14 +16,14 @@ use Rattle.dots_history.specs.Bounds.{within_bounds, change_within}
 use Rattle.dots_history.specs.Entries.{same_client, is_signal, signals, is_configuration, is_lost, is_loss}
 use Rattle.dots_history.specs.Histories.{tally, mitigations, held, alone}
 use Rattle.dots_history.specs.Keeping.{kept}
-use Rattle.dots_laws.specs.Capacities.{KeepsCapacities, belongs_there, belongs, loses_as, has_client, is_alias, most_named}
-use Rattle.dots_laws.specs.Calm.{numbers_from}
-use Rattle.dots_laws.specs.Filed.{Filed, entry_of}
-use Rattle.dots_laws.specs.Fits.{is_of_mitigations}
-use Rattle.dots_laws.specs.Fits as laws
-use Rattle.dots_laws.proofs.Bounding.{named_few}
-use Rattle.dots_laws.proofs.GoingOn.{held_push}
-use Rattle.dots_laws.proofs.Joining.{fits_so, same_by, tally_held, tally_same}
+use Rattle.dots_history.specs.Capacities.{KeepsCapacities, belongs_there, belongs, loses_as, has_client, is_alias, most_named}
+use Rattle.dots_history.specs.Calm.{numbers_from}
+use Rattle.dots_history.specs.Filed.{Filed, entry_of}
+use Rattle.dots_history.specs.Fits.{is_of_mitigations}
+use Rattle.dots_history.specs.Fits as laws
+use Rattle.dots_history.proofs.Bounding.{named_few}
+use Rattle.dots_history.proofs.GoingOn.{held_push}
+use Rattle.dots_history.proofs.Joining.{fits_so, same_by, tally_held, tally_same}
 use Rattle.live_mitigations.specs.LiveValues.{LiveValue, SameButRows, SlotsAre, SlotsCome, rows_for, puts}
 use Rattle.live_mitigations.specs.LiveValues as lives
 use Rattle.live_mitigations.proofs.Bared.{bared, bared_entries, are_bared, bared_are}

@@ -15,13 +15,13 @@ use Rattle.dots_history.specs.declared.put.Put.{Put}
 use Rattle.dots_history.specs.Entries.{is_configuration, is_loss, put_of, option_any}
 use Rattle.dots_history.specs.Histories.{Mitigation, mitigations, held}
 use Rattle.dots_history.specs.Rows.{acl_of}
-use Rattle.dots_laws.specs.Fits as laws
-use Rattle.dots_laws.specs.Tables.{client_of}
+use Rattle.dots_history.specs.Fits as laws
+use Rattle.dots_history.specs.Tables.{client_of}
 use Rattle.live_mitigations.specs.LiveValues.{LiveValue, SameButRows, rows_for, is_inside, puts}
 use Rattle.live_mitigations.specs.LiveValues as lives
 use Rattle.live_mitigations.proofs.LiveValues.{within_inside}
-use Rattle.dots_laws.specs.Held.{acls_of}
-use Rattle.dots_laws.specs.Capacities.{loses_as}
+use Rattle.dots_history.specs.Held.{acls_of}
+use Rattle.dots_history.specs.Capacities.{loses_as}
 use Rattle.held_resources.specs.Tables.{Tables, is_placed, is_known, sizes_of, tables_with, lost_in}
 use Rattle.held_resources.specs.Tables as things
 use Rattle.held_resources.proofs.Lawful.{same_held, known_of}

@@ -10,14 +10,14 @@ use Rattle.dots_history.specs.declared.change.Change.TheVariants as change
 use Rattle.dots_history.specs.Bounds.{within_bounds}
 use Rattle.dots_history.specs.Entries.{same_client, is_loss}
 use Rattle.dots_history.specs.Histories.{Mitigation, live, tally, mitigations, held}
-use Rattle.dots_laws.specs.Calm.{is_of_settings, came_rightly, is_own, IsCalmBy}
-use Rattle.dots_laws.specs.Capacities.{is_registration, is_alias, is_list, has_client}
-use Rattle.dots_laws.specs.Fits.{is_of_mitigations, is_registered, registers_rightly, fits}
-use Rattle.dots_laws.proofs.Adding.{adding}
-use Rattle.dots_laws.proofs.Ageing.{mitigations_age}
-use Rattle.dots_laws.proofs.GoingOn.{held_push}
-use Rattle.dots_laws.proofs.Joining.{fits_so, tally_with, tally_held, tally_same, same_by}
-use Rattle.dots_laws.specs.Views.{mitigations_at}
+use Rattle.dots_history.specs.Calm.{is_of_settings, came_rightly, is_own, IsCalmBy}
+use Rattle.dots_history.specs.Capacities.{is_registration, is_alias, is_list, has_client}
+use Rattle.dots_history.specs.Fits.{is_of_mitigations, is_registered, registers_rightly, fits}
+use Rattle.dots_history.proofs.Adding.{adding}
+use Rattle.dots_history.proofs.Ageing.{mitigations_age}
+use Rattle.dots_history.proofs.GoingOn.{held_push}
+use Rattle.dots_history.proofs.Joining.{fits_so, tally_with, tally_held, tally_same, same_by}
+use Rattle.dots_history.specs.Views.{mitigations_at}
 use Rattle.held_resources.specs.Tables.{rooms_of}
 use Rattle.held_resources.specs.Accepting.{accepts, keeps_rooms}
 use Rattle.held_resources.proofs.Lawful.{accepts_own}

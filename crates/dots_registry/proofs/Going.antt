@@ -14,8 +14,8 @@ use Rattle.coap_exchange.specs.Rings.{RingValue, empty_ring, grown, noted, is_ri
 use Rattle.dots_history.specs.Slots.{number_in}
 use Rattle.coap_exchange.specs.Noting.{message_of}
 use Rattle.coap_exchange.proofs.Lasts.{drop_nil, pushed_lasts, map_lasts, map_pushed}
-use Rattle.dots_laws.specs.Tables.{pushed}
-use Rattle.dots_laws.specs.Filed.{Filed, slot_of, refiled}
+use Rattle.dots_history.specs.Tables.{pushed}
+use Rattle.dots_history.specs.Filed.{Filed, slot_of, refiled}
 use Rattle.dots_registry.specs.Kept.{is_from, RingsAre, last_slot}
 
 -- ---- one more in a list

@@ -20,12 +20,12 @@ use Rattle.dots_history.specs.Rows.{waits}
 use Rattle.dots_history.specs.declared.entry.MessageKey.TheVariants as key
 use Rattle.dots_settings.specs.declared.peer.Role.TheVariants as role
 use Rattle.dots_history.specs.Histories.{Mitigation, is_nil, held}
-use Rattle.dots_laws.specs.Calm.{may_act, may_configure, is_client_of, all_inside, name_inside, change_inside, acts_rightly, loses_rightly, waits_rightly, is_of_settings, came_rightly, is_http, is_own}
-use Rattle.dots_laws.specs.Tables.{Client, is_of}
+use Rattle.dots_history.specs.Calm.{may_act, may_configure, is_client_of, all_inside, name_inside, change_inside, acts_rightly, loses_rightly, waits_rightly, is_of_settings, came_rightly, is_http, is_own}
+use Rattle.dots_history.specs.Tables.{Client, is_of}
 use Rattle.conflict_rules.specs.declared.live.Live.{Live}
 use Rattle.conflict_rules.specs.ByMid.{has_mid}
 use Rattle.conflict_rules.specs.Lives.{put_or_nothing, live_of, lives_of}
-use Rattle.dots_laws.specs.Held.{alias_of, aliases_of}
+use Rattle.dots_history.specs.Held.{alias_of, aliases_of}
 use Rattle.conflict_rules.specs.declared.judging.Judged.{Judged}
 use Rattle.conflict_rules.specs.Requests.{Request, ClientValue}
 use Rattle.conflict_rules.specs.Targets.{prefixes_asked, target_of, own_target, alias_named, alias_target, targets_of}

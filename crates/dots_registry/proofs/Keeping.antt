@@ -8,15 +8,15 @@ use Rattle.dots_history.specs.Entries.{signals}
 use Rattle.dots_history.specs.Histories.{View, Within, IsPart, Kept, Calm, mitigations, recent, alone}
 use Rattle.dots_history.specs.Keeping.{kept}
 use Rattle.dots_history.proofs.Remembering.{recent_are_lasts}
-use Rattle.dots_laws.specs.Tables.{bare, bare_mitigation, ring}
-use Rattle.dots_laws.specs.Views.{mitigations_of}
-use Rattle.dots_laws.proofs.Apart.{apart}
-use Rattle.dots_laws.proofs.Bare.{bare_mitigations}
-use Rattle.dots_laws.specs.Calm.{is_own}
-use Rattle.dots_laws.specs.Containing.{scrubs_inside, lists_inside}
-use Rattle.dots_laws.proofs.Containing.{scrub_rows_inside, acl_rows_inside}
-use Rattle.dots_laws.proofs.Parts.{part_list_all}
-use Rattle.dots_laws.proofs.Views.{dropping}
+use Rattle.dots_history.specs.Tables.{bare, bare_mitigation, ring}
+use Rattle.dots_history.specs.Views.{mitigations_of}
+use Rattle.dots_history.proofs.Apart.{apart}
+use Rattle.dots_history.proofs.Bare.{bare_mitigations}
+use Rattle.dots_history.specs.Calm.{is_own}
+use Rattle.dots_history.specs.Containing.{scrubs_inside, lists_inside}
+use Rattle.dots_history.proofs.Containing.{scrub_rows_inside, acl_rows_inside}
+use Rattle.dots_history.proofs.Parts.{part_list_all}
+use Rattle.dots_history.proofs.ViewLemmas.{dropping}
 use Rattle.live_mitigations.specs.LiveValues.{LiveValue, rows_for, is_inside}
 use Rattle.live_mitigations.specs.LiveValues as lives
 use Rattle.held_resources.specs.Tables.{Have, SameButSlots}

@@ -1,3 +1,11 @@
+pub mod LedgerValues
+pub mod Slots
+pub mod Images
+pub mod Answering
+pub mod Sizing
+pub mod Recovering
+pub mod Wholes
+pub mod Making
 pub mod Lists
 pub mod ViewRows
 mod Mitigating

@@ -8,12 +8,12 @@ use Rattle.dots_history.specs.declared.entry.Entry.{Entry}
 use Rattle.dots_history.specs.declared.change.Change.{Change}
 use Rattle.dots_history.specs.declared.status.Status.TheVariants.{Open}
 use Rattle.dots_history.specs.Histories.{Mitigation, live, status, stays, mitigations, held}
-use Rattle.dots_laws.specs.Tables.{Client, is_of}
-use Rattle.dots_laws.specs.Views.{mitigations_of}
+use Rattle.dots_history.specs.Tables.{Client, is_of}
+use Rattle.dots_history.specs.Views.{mitigations_of}
 use Rattle.conflict_rules.specs.declared.live.Live.{Live}
 use Rattle.conflict_rules.specs.Lives.{live_of, lives_of}
-use Rattle.dots_laws.specs.Held.{written}
-use Rattle.dots_laws.proofs.Written.{some_of_both}
+use Rattle.dots_history.specs.Held.{written}
+use Rattle.dots_history.proofs.Written.{some_of_both}
 
 -- ---- what is found
 pub found_passes : {A : Type 0} (test p : A → Bool) (xs : List A) (x : A) → find test xs ≡ Some x → list_all p xs ≡ true → p x ≡ true

@@ -6,9 +6,9 @@ use Rattle.std.proofs.lemmas.Bool.{false≢true, both_ways, cond_both, cases_Boo
 use Rattle.dots_history.specs.declared.entry.Entry.{Entry}
 use Rattle.dots_history.specs.Histories.{Mitigation, mitigations}
 use Rattle.dots_history.specs.Rows.{triggers, is_lost_in, works}
-use Rattle.dots_laws.specs.Tables.{bare, bare_mitigation}
-use Rattle.dots_laws.specs.Views.{mitigations_of}
-use Rattle.dots_laws.proofs.Bare.{bare_mitigations}
+use Rattle.dots_history.specs.Tables.{bare, bare_mitigation}
+use Rattle.dots_history.specs.Views.{mitigations_of}
+use Rattle.dots_history.proofs.Bare.{bare_mitigations}
 use Rattle.live_mitigations.proofs.Room.{of_domain_bare}
 
 spread : (p a l x y : Bool) → ((p && (a || l)) || (x || y)) ≡ (((p && a) || x) || ((p && l) || y))

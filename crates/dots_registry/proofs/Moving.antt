@@ -10,7 +10,7 @@ use Rattle.dots_history.specs.Entries.{withdraws}
 use Rattle.dots_history.specs.Histories.{live, status, step, or_else}
 use Rattle.dots_history.specs.Keeping.{is_open}
 use Rattle.dots_history.specs.Slots.{number_in}
-use Rattle.dots_laws.specs.Filed.{Filed, entry_of, refiled}
+use Rattle.dots_history.specs.Filed.{Filed, entry_of, refiled}
 use Rattle.live_mitigations.specs.Slots.{withdrawal_in, slots_by, live_slots}
 use Rattle.live_mitigations.specs.Rows.{LiveTable, slots_or_none}
 use Rattle.live_mitigations.specs.Numbers.{renumbered, table_renumbered}

@@ -5,11 +5,11 @@ use Rattle.std.specs.List.{list_any, list_all}
 use Rattle.dots_history.specs.Histories.{Mitigation, is_recent, is_nil, or_else}
 use Rattle.dots_history.specs.Keeping.{names, pass, kept_places}
 use Rattle.dots_history.specs.Slots.{Rises}
-use Rattle.dots_laws.specs.KeptPlaces.{at_places, union, live_places, withdrawal_places, recent_places, last_places, held_places}
-use Rattle.dots_laws.proofs.KeptPlaces.{places_of_parts}
+use Rattle.dots_history.specs.KeptPlaces.{at_places, union, live_places, withdrawal_places, recent_places, last_places, held_places}
+use Rattle.dots_history.proofs.KeptPlaces.{places_of_parts}
 use Rattle.live_mitigations.specs.LiveValues.{is_inside, SlotsAre}
 use Rattle.coap_exchange.specs.Rings.{RingValue, all_slots}
-use Rattle.dots_laws.specs.Filed.{Filed, entry_of, slot_of}
+use Rattle.dots_history.specs.Filed.{Filed, entry_of, slot_of}
 use Rattle.live_mitigations.specs.Rows.{LiveTable}
 use Rattle.live_mitigations.specs.Numbers.{all_numbers}
 use Rattle.live_mitigations.proofs.Members.{has, any_append, any_union, union_same}

@@ -7,10 +7,10 @@ use Rattle.dots_history.specs.declared.entry.Entry.{Entry}
 use Rattle.dots_history.specs.Histories.{Mitigation}
 use Rattle.dots_history.specs.Keeping.{names, pass, kept, kept_places}
 use Rattle.dots_history.specs.Slots.{Rises, placed, number_in}
-use Rattle.dots_laws.specs.KeptPlaces.{at_places, union}
-use Rattle.dots_laws.proofs.Keeping.{Keeper}
+use Rattle.dots_history.specs.KeptPlaces.{at_places, union}
+use Rattle.dots_history.proofs.Keeping.{Keeper}
 use Rattle.dots_history.proofs.Rising.{number_there}
-use Rattle.dots_laws.specs.Filed.{Filed, entry_of, slot_of, refiled}
+use Rattle.dots_history.specs.Filed.{Filed, entry_of, slot_of, refiled}
 use Rattle.dots_registry.specs.Kept.{filed_kept_by, filed_kept, named_slots, filed_from, filed}
 use Rattle.dots_registry.proofs.Staying.{by_first, kept_entries}
 

@@ -10,13 +10,13 @@ use Rattle.dots_settings.specs.Settings.{SettingsValue}
 use Rattle.dots_history.specs.declared.entry.Entry.{Entry}
 use Rattle.dots_history.specs.Entries.{same_client}
 use Rattle.dots_history.specs.Histories.{Mitigation, mitigations, held}
-use Rattle.dots_laws.specs.Fits.{is_of_mitigations, has_one_peer}
-use Rattle.dots_laws.specs.Tables.{Client}
-use Rattle.dots_laws.specs.Views.{mitigations_of}
+use Rattle.dots_history.specs.Fits.{is_of_mitigations, has_one_peer}
+use Rattle.dots_history.specs.Tables.{Client}
+use Rattle.dots_history.specs.Views.{mitigations_of}
 use Rattle.conflict_rules.specs.ByMid.{has_mid}
 use Rattle.conflict_rules.specs.ByMid as by_mid
 use Rattle.conflict_rules.specs.Lives.{live_of, lives_of}
-use Rattle.dots_laws.specs.Held.{is_of_another}
+use Rattle.dots_history.specs.Held.{is_of_another}
 use Rattle.held_resources.proofs.Holdings.{turned_eq}
 use Rattle.conflict_rules.specs.declared.fault.PutFault.{PutFault}
 use Rattle.conflict_rules.specs.declared.fault.PutFault.TheVariants as faults

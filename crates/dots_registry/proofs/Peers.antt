@@ -7,7 +7,7 @@ use Rattle.dots_history.specs.declared.entry.Entry.{Entry}
 use Rattle.dots_history.specs.declared.status.Status.TheVariants.{Open}
 use Rattle.dots_history.specs.Entries.{same_client}
 use Rattle.dots_history.specs.Histories.{Mitigation, live, status, mitigations}
-use Rattle.dots_laws.specs.Views.{mitigations_of}
+use Rattle.dots_history.specs.Views.{mitigations_of}
 use Rattle.conflict_rules.specs.ByMid.{collides}
 use Rattle.conflict_rules.specs.Lives.{live_of, lives_of}
 use Rattle.live_mitigations.specs.LiveValues.{is_inside, puts}

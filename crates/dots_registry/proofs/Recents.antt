@@ -9,7 +9,7 @@ use Rattle.dots_history.specs.Histories.{tally, is_recent}
 use Rattle.dots_history.specs.Places.{lasts}
 use Rattle.coap_exchange.specs.declared.pair.Pair.{Pair}
 use Rattle.coap_exchange.specs.Rings.{RingValue, is_ring_of, slots_of, all_slots}
-use Rattle.dots_laws.specs.Filed.{Filed, entry_of, slot_of}
+use Rattle.dots_history.specs.Filed.{Filed, entry_of, slot_of}
 use Rattle.live_mitigations.proofs.Members.{has, any_append}
 use Rattle.dots_registry.specs.Kept.{is_from, RingsAre}
 use Rattle.dots_registry.specs.RegistryValues.{has_ring}

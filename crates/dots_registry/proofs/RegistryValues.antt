@@ -15,9 +15,9 @@ use Rattle.dots_history.specs.declared.put.Put.{Put}
 use Rattle.dots_history.specs.Entries.{is_configuration, is_loss, same_client, ends, withdraws, runs, put_of, option_any}
 use Rattle.dots_history.specs.Histories.{Mitigation, live, step, tally, mitigations, held}
 use Rattle.dots_history.specs.Bounds.{within_bounds}
-use Rattle.dots_laws.specs.Calm.{is_of_settings}
-use Rattle.dots_laws.specs.Fits as laws
-use Rattle.dots_laws.specs.Tables.{bare}
+use Rattle.dots_history.specs.Calm.{is_of_settings}
+use Rattle.dots_history.specs.Fits as laws
+use Rattle.dots_history.specs.Tables.{bare}
 use Rattle.live_mitigations.specs.Ends.{never}
 use Rattle.live_mitigations.specs.Rows.{is_left, lives_at_first}
 use Rattle.live_mitigations.specs.LiveValues.{LiveValue, SameButRows, rows_for, puts, keeps_limits, keeps_live_room, has_live_room}
@@ -25,7 +25,7 @@ use Rattle.live_mitigations.specs.LiveValues as lives
 use Rattle.live_mitigations.proofs.LiveValues.{comes_later}
 use Rattle.live_mitigations.proofs.Room.{has_room_is}
 use Rattle.held_resources.specs.Tables.{Tables, SameButSlots, sizes_of, is_placed, is_known, tables_with}
-use Rattle.dots_laws.specs.Capacities.{loses_as}
+use Rattle.dots_history.specs.Capacities.{loses_as}
 use Rattle.held_resources.specs.Tables as things
 use Rattle.held_resources.specs.Accepting.{accepts, accepts_by, keeps_rooms}
 use Rattle.held_resources.specs.Accepting as accepting

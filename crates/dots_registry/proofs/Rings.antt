@@ -14,7 +14,7 @@ use Rattle.dots_settings.specs.Lookups.{no_domain, role_of, prefixes_of}
 use Rattle.dots_history.specs.declared.entry.Entry.{Entry}
 use Rattle.dots_history.specs.Entries.{is_signal, signals, is_configuration, may_repeat}
 use Rattle.dots_history.specs.Histories.{is_nil, is_recent, or_else, remembered}
-use Rattle.dots_laws.specs.Calm.{is_of_settings, may_act, may_configure, change_inside, acts_rightly, loses_rightly, waits_rightly}
+use Rattle.dots_history.specs.Calm.{is_of_settings, may_act, may_configure, change_inside, acts_rightly, loses_rightly, waits_rightly}
 use Rattle.coap_exchange.specs.declared.pair.Pair.{Pair}
 use Rattle.coap_exchange.specs.Pairs.{is_pair, pair_with, below, pairs_of_role, pairs_of_row}
 use Rattle.coap_exchange.specs.Rings.{RingValue, is_ring_of, messages_of, reply_to, noted}

@@ -8,11 +8,11 @@ use Rattle.dots_history.specs.declared.entry.Entry.{Entry}
 use Rattle.dots_history.specs.Histories.{Calm, tally, held}
 use Rattle.dots_history.specs.Keeping.{names, kept}
 use Rattle.dots_history.specs.Slots.{Rises, placed, number_in}
-use Rattle.dots_laws.specs.KeptPlaces.{union}
-use Rattle.dots_laws.proofs.Keeping.{kept_is_part}
-use Rattle.dots_laws.proofs.Parts.{part_list_all}
-use Rattle.dots_laws.proofs.Views.{kept_held}
-use Rattle.dots_laws.specs.Filed.{Filed, entry_of, slot_of, refiled}
+use Rattle.dots_history.specs.KeptPlaces.{union}
+use Rattle.dots_history.proofs.Keeping.{kept_is_part}
+use Rattle.dots_history.proofs.Parts.{part_list_all}
+use Rattle.dots_history.proofs.ViewLemmas.{kept_held}
+use Rattle.dots_history.specs.Filed.{Filed, entry_of, slot_of, refiled}
 use Rattle.dots_settings.specs.Settings.{SettingsValue}
 use Rattle.live_mitigations.specs.Numbers.{live_renumbered}
 use Rattle.live_mitigations.specs.LiveValues.{LiveValue, is_inside}

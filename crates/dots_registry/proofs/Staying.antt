@@ -10,14 +10,14 @@ use Rattle.dots_history.specs.Entries.{withdraws, signals}
 use Rattle.dots_history.specs.Histories.{Mitigation, Within, Calm, OnePeer, live, if_live, status, step, stays, held, or_else}
 use Rattle.dots_history.specs.Keeping.{is_open, is_first, moved, names, pass, kept_by}
 use Rattle.dots_history.specs.Places.{lasts}
-use Rattle.dots_laws.proofs.Keeping.{Keeper}
-use Rattle.dots_laws.proofs.Members.{In, in_back, any_of}
-use Rattle.dots_laws.proofs.Dropping.{named, unnamed, no_change, still_there}
-use Rattle.dots_laws.proofs.Views.{same_live_by, kept_held}
+use Rattle.dots_history.proofs.Keeping.{Keeper}
+use Rattle.dots_history.proofs.Members.{In, in_back, any_of}
+use Rattle.dots_history.proofs.Dropping.{named, unnamed, no_change, still_there}
+use Rattle.dots_history.proofs.ViewLemmas.{same_live_by, kept_held}
 use Rattle.coap_exchange.specs.declared.pair.Pair.{Pair}
 use Rattle.coap_exchange.specs.Rings.{RingValue}
 use Rattle.live_mitigations.specs.declared.slots.MitigationSlots.{MitigationSlots}
-use Rattle.dots_laws.specs.Filed.{Filed, entry_of, slot_of}
+use Rattle.dots_history.specs.Filed.{Filed, entry_of, slot_of}
 use Rattle.live_mitigations.specs.Slots.{withdrawal_in, slots_by, live_slots}
 use Rattle.live_mitigations.specs.LiveValues.{filed_alone}
 use Rattle.live_mitigations.proofs.Domains.{status_own, withdrawal_own}

@@ -1,8 +1,8 @@
 -- Slots that are put into a list part by part.
 use Rattle.std.proofs.Common.{◌≡◌, ℕ, ◌≤◌, List, [], ◌∷◌, ◌++◌, length, refl, ap, ◌∙◌, le_trans, subst}
 use Rattle.dots_history.specs.Slots.{placed}
-use Rattle.dots_laws.specs.KeptPlaces.{union}
-use Rattle.dots_laws.proofs.Unions.{union_longer}
+use Rattle.dots_history.specs.KeptPlaces.{union}
+use Rattle.dots_history.proofs.Unions.{union_longer}
 
 union_append : (xs ys zs : List ℕ) → union (xs ++ ys) zs ≡ union xs (union ys zs)
 union_append [] ys zs = refl

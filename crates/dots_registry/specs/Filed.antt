@@ -4,9 +4,9 @@ use Rattle.std.specs.List.{list_all}
 use Rattle.dots_history.specs.declared.entry.Entry.{Entry}
 use Rattle.dots_history.specs.Entries.{same_client}
 use Rattle.dots_history.specs.Histories.{tally, held}
-use Rattle.dots_laws.specs.Capacities.{Capacities, is_alias, most_named}
-use Rattle.dots_laws.specs.Calm.{numbers_from}
-use Rattle.dots_laws.specs.Filed.{Filed, entry_of}
+use Rattle.dots_history.specs.Capacities.{Capacities, is_alias, most_named}
+use Rattle.dots_history.specs.Calm.{numbers_from}
+use Rattle.dots_history.specs.Filed.{Filed, entry_of}
 use Rattle.held_resources.specs.Tables.{is_known}
 use Rattle.coap_exchange.specs.Rings.{RingValue}
 use Rattle.dots_registry.specs.Kept.{KeptValue, AreOf}

@@ -5,7 +5,7 @@ use Rattle.dots_history.specs.declared.entry.Entry.{Entry}
 use Rattle.dots_history.specs.Bounds.{within_bounds}
 use Rattle.dots_history.specs.Entries.{same_client}
 use Rattle.dots_history.specs.Histories.{Mitigation}
-use Rattle.dots_laws.specs.Fits as laws
+use Rattle.dots_history.specs.Fits as laws
 use Rattle.live_mitigations.specs.LiveValues.{has_live_room}
 use Rattle.held_resources.specs.Accepting.{accepts}
 use Rattle.dots_registry.specs.RegistryValues.{RegistryValue, Represents, IsOf, time_of}

@@ -1,6 +1,6 @@
 -- What a message asks of the rules for mitigations (RFC 9132, section 4.4.1).
 use Rattle.std.specs.Prelude.{ℕ}
-use Rattle.dots_heads.specs.declared.request.MitigationPath.{MitigationPath}
+use Rattle.dots_keys.specs.declared.head_request.MitigationPath.{MitigationPath}
 use Rattle.dots_keys.specs.declared.request.MitigationBody.{MitigationBody}
 use Rattle.conflict_rules.specs.Requests.{Request}
 

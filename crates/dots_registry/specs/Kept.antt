@@ -5,8 +5,8 @@ use Rattle.dots_history.specs.Entries.{signals}
 use Rattle.dots_history.specs.Histories.{Mitigation, or_else}
 use Rattle.dots_history.specs.Keeping.{names, pass, kept_places}
 use Rattle.dots_history.specs.Places.{lasts}
-use Rattle.dots_laws.specs.Filed.{Filed, entry_of, slot_of}
-use Rattle.dots_laws.specs.KeptPlaces.{at_places}
+use Rattle.dots_history.specs.Filed.{Filed, entry_of, slot_of}
+use Rattle.dots_history.specs.KeptPlaces.{at_places}
 use Rattle.coap_exchange.specs.declared.pair.Pair.{Pair}
 use Rattle.coap_exchange.specs.Rings.{RingValue, slots_of, all_slots}
 use Rattle.live_mitigations.specs.Rows.{LiveTable}

@@ -1,3 +1,6 @@
+pub mod LedgerValues
+pub mod Crashes
+pub mod Beginning
 pub mod Limits
 pub mod RegistryValues
 pub mod Kept

@@ -4,7 +4,7 @@ use Rattle.dots_settings.specs.declared.limits.Limits.{Limits}
 use Rattle.dots_history.specs.declared.entry.Entry.{Entry}
 use Rattle.dots_history.specs.Entries.{same_client}
 use Rattle.dots_history.specs.Histories.{Mitigation, tally, mitigations, held}
-use Rattle.dots_laws.specs.Capacities.{is_alias}
+use Rattle.dots_history.specs.Capacities.{is_alias}
 
 -- In what the history comes to at the time no client has more live mitigations, and no client more aliases, than the limits
 -- allow. The limits of the domains and of the access lists are those that a registry's `Represents` says.

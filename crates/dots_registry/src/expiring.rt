@@ -8,7 +8,7 @@ ghost use Rattle.live_mitigations.specs.LiveValues as lives;
 ghost use Rattle.held_resources.specs.Tables as things;
 ghost use Rattle.installed_filters.specs.Filters.{SameRoom};
 ghost use Rattle.installed_filters.specs.HistoryRows.{Represents};
-ghost use Rattle.dots_laws.specs.Filed.{Filed};
+ghost use Rattle.dots_history.specs.Filed.{Filed};
 ghost use Rattle.coap_observe.specs.DueAmong.{includes};
 
 use coap_observe::DueAmong;

@@ -4,16 +4,15 @@ ghost use Rattle.std.specs.Prelude.{◌≡◌, ◌≤◌, ◌<◌, ◌&&◌, tru
 ghost use Rattle.std.specs.List.{list_all};
 ghost use Rattle.dots_history.specs.Bounds.{within_bounds};
 ghost use Rattle.dots_history.specs.Histories.{mitigations};
-ghost use Rattle.dots_laws.specs.Calm.{is_of_settings};
-ghost use Rattle.dots_laws.specs.Fits.{is_of_mitigations, has_one_peer};
+ghost use Rattle.dots_history.specs.Calm.{is_of_settings};
+ghost use Rattle.dots_history.specs.Fits.{is_of_mitigations, has_one_peer};
 ghost use Rattle.dots_history.specs.declared.entry.Entry.{Entry};
 ghost use Rattle.live_mitigations.specs.LiveValues.{puts, has_live_room};
 ghost use Rattle.dots_registry.specs.RegistryValues.{Represents, IsOf, time_of, domains_of, limits_of};
 ghost use Rattle.dots_registry.specs.Fitting.{fits_now, fits_tables, has_peer};
 
 use crate::registry::Registry;
-use dots_history::{Change, Entry, is_within_bounds};
-use dots_laws::{is_of_mitigations, is_of_settings};
+use dots_history::{Change, Entry, is_of_mitigations, is_of_settings, is_within_bounds};
 use dots_settings::Settings;
 
 impl Registry {

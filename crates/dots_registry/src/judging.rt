@@ -10,8 +10,7 @@ ghost use Rattle.dots_registry.specs.Judging.{asked_by};
 
 use crate::registry::Registry;
 use conflict_rules::{Client, Judged, PutFault, PutRequest, judge_put};
-use dots_heads::MitigationPath;
-use dots_keys::MitigationBody;
+use dots_keys::{MitigationBody, MitigationPath};
 use dots_settings::Settings;
 
 impl Registry {

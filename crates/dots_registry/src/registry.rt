@@ -16,16 +16,16 @@ ghost use Rattle.dots_registry.specs.RegistryValues.{Represents, IsOf, time_of, 
 ghost use Rattle.coap_observe.specs.DueAmong.{includes};
 ghost use Rattle.dots_registry.specs.ObserverViews.{views_of};
 ghost use Rattle.dots_registry.specs.Fitting.{FitsIn};
-ghost use Rattle.dots_laws.specs.Filed.{Filed};
+ghost use Rattle.dots_history.specs.Filed.{Filed};
 ghost use Rattle.dots_registry.specs.Filed.{RepresentsFiled};
 
 use crate::expiring::expire_all;
+use acl_lists::{AclRow, ScrubRow};
 use coap_exchange::Remembered;
 use coap_observe::DueAmong;
 use dots_history::{Entry, is_loss, is_signal};
 use dots_lists::{Bytes, NoMemory};
 use dots_settings::Settings;
-use filter_rows::{AclRow, ScrubRow};
 use filter_table::FilterTable;
 use held_resources::HeldResources;
 use installed_filters::{InstalledFilters, Staged, is_mitigating};

@@ -3,7 +3,7 @@ use Rattle.std.proofs.Common.{◌≡◌, ◌≢◌, ℕ, ◌⊎◌, inl, inr, Bo
 use Rattle.std.proofs.lemmas.Bool.Decides.{nat_tests}
 use Rattle.std.specs.Prelude.{bytes_eq, is_some}
 use Rattle.std.specs.Option.{option_map}
-use Rattle.plain_text.specs.Numbers.{number_in}
+use Rattle.dots_lists.specs.Numbers.{number_in}
 use Rattle.dots_machine.specs.Commands.{is_word, is_replay, is_serve, is_served, is_show, is_command}
 use Rattle.dots_run.specs.declared.topic_outcome.TopicOutcome.{TopicOutcome}
 use Rattle.dots_run.specs.declared.topic_outcome.TopicOutcome.TheVariants as outcomes
@@ -167,6 +167,13 @@ never_two outcomes.Failed is = absurd (omega (arith, is))
 never_two outcomes.AtFault is = absurd (omega (arith, is))
 never_two outcomes.Unread is = absurd (omega (arith, is))
 never_two outcomes.NoMemory is = absurd (omega (arith, is))
+
+pub never_ten : (end : TopicOutcome) → outcome_status end ≡ 10 → ⊥
+never_ten outcomes.Written is = absurd (omega (arith, is))
+never_ten outcomes.Failed is = absurd (omega (arith, is))
+never_ten outcomes.AtFault is = absurd (omega (arith, is))
+never_ten outcomes.Unread is = absurd (omega (arith, is))
+never_ten outcomes.NoMemory is = absurd (omega (arith, is))
 
 pub status_unread : (end : TopicOutcome) → outcome_status end ≡ 5 → end ≡ outcomes.Unread
 status_unread outcomes.Written is = absurd (omega (arith, is))

@@ -1,9 +1,9 @@
 -- What is told of the settings of a client, and the numbers with which one begins.
 use Rattle.std.proofs.Common.{◌≡◌, ℕ, List, Option, Result, Ok, Err, refl, subst}
 use Rattle.std.specs.Prelude.{IfOk, IfSome}
-use Rattle.file_checks.specs.declared.checked.Checked.{Checked}
-use Rattle.file_checks.specs.declared.checked.Unchecked.{Unchecked}
-use Rattle.file_checks.specs.declared.checked.Unchecked.TheVariants as unchecked
+use Rattle.dots_script.specs.declared.checked.Checked.{Checked}
+use Rattle.dots_script.specs.declared.checked.Unchecked.{Unchecked}
+use Rattle.dots_script.specs.declared.checked.Unchecked.TheVariants as unchecked
 use Rattle.ask_agent.specs.declared.firsts.Firsts.{Firsts}
 use Rattle.ask_agent.specs.Checking.{ChecksAsk}
 use Rattle.dots_run.specs.declared.topic_outcome.TopicOutcome.{TopicOutcome}

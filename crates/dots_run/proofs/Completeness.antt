@@ -1,31 +1,34 @@
 -- Which endings are left, where the settings are at fault, where nothing is, and where a word is to be shown.
-use Rattle.std.proofs.Common.{◌≡◌, ◌≢◌, ℕ, ◌≤◌, Bool, true, false, ◌&&◌, ◌||◌, List, [], ◌∷◌, codes, Result, Ok, ◌⊎◌, inl, inr, refl, sym, ◌∙◌, subst, arith}
+use Rattle.std.proofs.Common.{◌≡◌, ◌≢◌, ℕ, ◌<◌, ◌≤◌, Bool, true, false, ◌&&◌, ◌||◌, List, [], ◌∷◌, codes, Result, Ok, ◌⊎◌, inl, inr, refl, sym, ◌∙◌, subst, arith}
 use Rattle.std.proofs.lemmas.Bool.{true≢false}
 use Rattle.std.proofs.lemmas.Bool.Decides.{nat_tests}
 use Rattle.std.specs.Prelude.{IfSome, bytes_eq}
 use Rattle.coap_message.specs.Message.{spelling}
 use Rattle.coap_message.proofs.Faults.{breaks_no_message}
-use Rattle.message_text.specs.declared.printing.Printed.TheVariants as printed
-use Rattle.message_text.specs.Printing.{IsPrinted, PrintsFault, PrintsNoHex}
+use Rattle.coap_message.specs.declared.printing.Printed.TheVariants as printed
+use Rattle.coap_message.specs.Printing.{IsPrinted, PrintsFault, PrintsNoHex}
 use Rattle.dots_host.specs.Causes.{Rose}
 use Rattle.dots_settings.specs.declared.fault.SettingsFault.{SettingsFault}
 use Rattle.dots_settings.specs.File.{SettingsAre, SettingsFail}
 use Rattle.dots_settings.specs.Settings.{SettingsValue}
 use Rattle.dots_settings.proofs.OneFile.{no_settings_at_fault, one_settings}
-use Rattle.dots_laws.specs.Fits.{is_calm}
+use Rattle.dots_history.specs.Fits.{is_calm}
 use Rattle.slot_store.specs.Layout.{needed_of}
 use Rattle.slot_journal.specs.declared.fault.JournalFault.{JournalFault}
 use Rattle.slot_journal.specs.declared.fault.JournalFault.TheVariants as faults
 use Rattle.slot_journal.specs.Sizes.{slots_of}
 use Rattle.slot_journal.specs.DiskEntries.{HasEntries}
+use Rattle.slot_journal.specs.Refused.{IsNoSize, IsSmallBy}
 use Rattle.slot_journal.specs.Untaken.{IsFailure}
-use Rattle.dots_ledger.proofs.Recovering.{fails_alone}
+use Rattle.dots_registry.proofs.Recovering.{fails_alone}
 use Rattle.dots_machine.specs.declared.ending.Ending.{Ending}
 use Rattle.dots_machine.specs.declared.ending.Ending.TheVariants as ending
 use Rattle.dots_machine.specs.declared.ending.Printing.TheVariants as printings
 use Rattle.dots_machine.specs.declared.ending.Stop.TheVariants as stop
 use Rattle.dots_machine.specs.Commands.{is_word, is_replay, is_serve, is_served, is_show, is_command, second_of}
 use Rattle.dots_run.proofs.Commands.{served_by}
+use Rattle.dots_run.specs.Outcomes.{IsTooSmall}
+use Rattle.dots_run.specs.Refusals.{FailsOnly}
 use Rattle.dots_machine.specs.Outside.{Outside, SourceFailed, WireFailed, DiskFailed, ReportFailed}
 use Rattle.dots_machine.specs.Endings.{by_disk, recovery_status, status_of, has_hosted, IsDiskFailure, Unrecovers, Behaves, GivesSettings, GivesFault, IsReady, IsReadable}
 
@@ -83,6 +86,13 @@ no_nine faults.DiskFault is = omega (arith, is)
 no_nine (faults.NotOurs at) is = omega (arith, is)
 no_nine (faults.SettingsChanged stored given) is = omega (arith, is)
 no_nine (faults.TooSmall needed found) is = omega (arith, is)
+
+no_ten : (fault : JournalFault) → recovery_status fault ≡ 10 → IsNoSize fault → ⊥
+no_ten faults.NoMemory is sized = omega (arith, is)
+no_ten faults.DiskFault is sized = omega (arith, is)
+no_ten (faults.NotOurs at) is sized = omega (arith, is)
+no_ten (faults.SettingsChanged stored given) is sized = omega (arith, is)
+no_ten (faults.TooSmall needed found) is sized = sized
 
 -- memory ran out, the settings couldn't be read, or no read of them failed
 abbrev pub SourceReadAll : ℕ → ℕ → Ending → Type 0
@@ -278,6 +288,58 @@ module _ (words : List (List ℕ)) (before now : Outside) where
   has_failed (ending.Served stop.DiskFailed) is behaves = behaves.3.any.2.1
   has_failed (ending.Served (stop.Unrecovered fault)) is behaves = six fault is behaves.3.any.2.1
   has_failed ending.ReportFailed is behaves = absurd (omega (arith, is))
+
+  -- the disk is too small where the status is 10
+  ten : (settings : SettingsValue) (fault : JournalFault) → recovery_status fault ≡ 10 → IsSmallBy settings before.extent fault → before.extent < needed_of (slots_of settings)
+  ten settings (faults.TooSmall needed found) is small =
+      let all = small.0 in
+      let there = small.1 in
+      let less = small.2 in
+      omega (arith, all, there, less)
+  ten settings faults.NoMemory is small = absurd (omega (arith, is))
+  ten settings faults.DiskFault is small = absurd (omega (arith, is))
+  ten settings (faults.NotOurs at) is small = absurd (omega (arith, is))
+  ten settings (faults.SettingsChanged stored given) is small = absurd (omega (arith, is))
+
+  pub is_too_small : (how : Ending) → status_of how ≡ 10 → Behaves how words before now → IsTooSmall before.left before.extent
+  is_too_small ending.WrongWords is behaves = absurd (omega (arith, is))
+  is_too_small (ending.Printed printings.Written) is behaves = absurd (omega (arith, is))
+  is_too_small (ending.Printed printings.Failed) is behaves = absurd (omega (arith, is))
+  is_too_small (ending.Printed printings.Unreadable) is behaves = absurd (omega (arith, is))
+  is_too_small (ending.Refused fault) is behaves = absurd (omega (arith, is))
+  is_too_small ending.NoMemory is behaves = absurd (omega (arith, is))
+  is_too_small ending.SettingsFailed is behaves = absurd (omega (arith, is))
+  is_too_small (ending.Unrecovered fault) is behaves =
+      record { settings = behaves.1; valid = behaves.3.valid; are = behaves.2; less = ten behaves.1 fault is behaves.3.small }
+  is_too_small (ending.Served stop.Ended) is behaves = absurd (omega (arith, is))
+  is_too_small (ending.Served stop.NextFailed) is behaves = absurd (omega (arith, is))
+  is_too_small (ending.Served stop.TooMany) is behaves = absurd (omega (arith, is))
+  is_too_small (ending.Served stop.DiskFailed) is behaves = absurd (omega (arith, is))
+  is_too_small (ending.Served (stop.Unrecovered fault)) is behaves = absurd (no_ten fault is behaves.3.sized)
+  is_too_small ending.ReportFailed is behaves = absurd (omega (arith, is))
+
+-- no call of the disk failed where the status isn't 6
+pub only_six : (how : Ending) (before now : ℕ) → status_of how ≢ 6 → FailsOnly how before now → now ≡ before
+only_six ending.WrongWords before now six only = only
+only_six (ending.Printed how) before now six only = only
+only_six (ending.Refused fault) before now six only = only
+only_six ending.NoMemory before now six only = only
+only_six ending.SettingsFailed before now six only = only
+only_six ending.ReportFailed before now six only = only
+only_six (ending.Unrecovered faults.DiskFault) before now six only = absurd (six refl)
+only_six (ending.Unrecovered faults.NoMemory) before now six only = only
+only_six (ending.Unrecovered (faults.NotOurs at)) before now six only = only
+only_six (ending.Unrecovered (faults.SettingsChanged stored given)) before now six only = only
+only_six (ending.Unrecovered (faults.TooSmall needed found)) before now six only = only
+only_six (ending.Served stop.Ended) before now six only = only
+only_six (ending.Served stop.NextFailed) before now six only = only
+only_six (ending.Served stop.TooMany) before now six only = only
+only_six (ending.Served stop.DiskFailed) before now six only = absurd (six refl)
+only_six (ending.Served (stop.Unrecovered faults.DiskFault)) before now six only = absurd (six refl)
+only_six (ending.Served (stop.Unrecovered faults.NoMemory)) before now six only = only
+only_six (ending.Served (stop.Unrecovered (faults.NotOurs at))) before now six only = only
+only_six (ending.Served (stop.Unrecovered (faults.SettingsChanged stored given))) before now six only = only
+only_six (ending.Served (stop.Unrecovered (faults.TooSmall needed found))) before now six only = only
 
 -- a status of these is one of an ending before the host is called
 pub not_served : (how : Ending) → 1 ≤ status_of how → status_of how ≤ 3 → has_hosted how ≡ false

@@ -1,11 +1,11 @@
 -- How telling ends, by what is to be told.
 use Rattle.std.proofs.Common.{◌≡◌, ℕ, ◌⊎◌, inl, inr, List, Option, Result, Ok, Err, refl, sym, ◌∙◌, subst}
 use Rattle.std.specs.Prelude.{IfOk, OnOk, IfSome}
-use Rattle.file_checks.specs.declared.checked.Checked.{Checked}
-use Rattle.file_checks.specs.declared.checked.Checked.TheVariants as checked
-use Rattle.file_checks.specs.declared.checked.Unchecked.{Unchecked}
-use Rattle.file_checks.specs.declared.checked.Unchecked.TheVariants as unchecked
-use Rattle.file_checks.specs.Checks.{ChecksSettings, ChecksScript}
+use Rattle.dots_script.specs.declared.checked.Checked.{Checked}
+use Rattle.dots_script.specs.declared.checked.Checked.TheVariants as checked
+use Rattle.dots_script.specs.declared.checked.Unchecked.{Unchecked}
+use Rattle.dots_script.specs.declared.checked.Unchecked.TheVariants as unchecked
+use Rattle.dots_script.specs.Checks.{ChecksSettings, ChecksScript}
 use Rattle.dots_run.specs.declared.topic.Topic.{Topic}
 use Rattle.dots_run.specs.declared.topic.Topic.TheVariants as topic
 use Rattle.dots_run.specs.declared.topic_outcome.TopicOutcome.{TopicOutcome}

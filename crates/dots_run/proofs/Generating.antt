@@ -8,10 +8,10 @@ use Rattle.dots_host.specs.declared.out.OwnedOut.{OwnedOut}
 use Rattle.dots_host.specs.Acts.{Timed, wire_acts}
 use Rattle.dots_host.specs.Memory.{told}
 use Rattle.dots_host.specs.Runs.{Owing, resting, Added, EndsBy}
-use Rattle.dots_disk.specs.Beside.{KeepsActs}
-use Rattle.dots_disk.specs.Media.{blank, grown, byte_of}
-use Rattle.dots_disk.specs.Hosted.{Hosted, HandsOut}
-use Rattle.dots_disk.specs.Stored.{Stored, media_of}
+use Rattle.dots_host.specs.Beside.{KeepsActs}
+use Rattle.dots_host.specs.Media.{blank, grown, byte_of}
+use Rattle.dots_host.specs.Hosted.{Hosted, HandsOut}
+use Rattle.dots_host.specs.Stored.{Stored, media_of}
 use Rattle.dots_settings.specs.Settings.{SettingsValue}
 use Rattle.dots_settings.specs.File.{SettingsAre}
 use Rattle.dots_history.specs.declared.entry.Entry.{Entry}

@@ -1,9 +1,9 @@
 -- What is told of a settings file and a host file.
 use Rattle.std.proofs.Common.{◌≡◌, ◌⊎◌, ℕ, List, Option, Result, Ok, Err, refl}
 use Rattle.std.specs.Prelude.{IfOk, IfSome}
-use Rattle.file_checks.specs.declared.checked.Checked.{Checked}
-use Rattle.file_checks.specs.declared.checked.Unchecked.{Unchecked}
-use Rattle.file_checks.specs.declared.checked.Unchecked.TheVariants as unchecked
+use Rattle.dots_script.specs.declared.checked.Checked.{Checked}
+use Rattle.dots_script.specs.declared.checked.Unchecked.{Unchecked}
+use Rattle.dots_script.specs.declared.checked.Unchecked.TheVariants as unchecked
 use Rattle.host_checks.specs.declared.files.Task.{Task}
 use Rattle.host_checks.specs.HostChecks.{ChecksFiles, front_of}
 use Rattle.dots_run.specs.declared.topic_outcome.TopicOutcome.{TopicOutcome}

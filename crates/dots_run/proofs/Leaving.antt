@@ -3,8 +3,8 @@ use Rattle.std.proofs.Common.{◌≡◌, ℕ, ◌+◌, ◌≤◌, List, [], ◌�
 use Rattle.std.proofs.lemmas.List.{append_cancel_left}
 use Rattle.dots_host.specs.Acts.{Timed}
 use Rattle.dots_host.specs.Runs.{Added}
-use Rattle.dots_disk.specs.Media.{Medium, Media, IsImage, all_media}
-use Rattle.dots_disk.specs.Becoming.{EachMedium, Leaves, RestsWith}
+use Rattle.dots_host.specs.Media.{Medium, Media, IsImage, all_media}
+use Rattle.dots_host.specs.Becoming.{EachMedium, Leaves, RestsWith}
 use Rattle.slot_store.specs.Gates.{Sees}
 use Rattle.slot_store.specs.Opening.{Is}
 use Rattle.slot_store.specs.Layout.{needed_of}

@@ -4,10 +4,10 @@ use Rattle.dots_settings.specs.declared.fault.SettingsFault.{SettingsFault}
 use Rattle.dots_settings.specs.Lines.{content_of}
 use Rattle.dots_settings.specs.Settings.{SettingsValue}
 use Rattle.dots_settings.proofs.OneFile.{no_settings_at_fault, one_settings, one_fault}
-use Rattle.file_checks.specs.declared.checked.Checked.{Checked}
-use Rattle.file_checks.specs.declared.checked.Checked.TheVariants as checked
-use Rattle.file_checks.specs.Checks.{ChecksSettings, ChecksScript, fault_report}
-use Rattle.file_checks.specs.Summary.{summary}
+use Rattle.dots_script.specs.declared.checked.Checked.{Checked}
+use Rattle.dots_script.specs.declared.checked.Checked.TheVariants as checked
+use Rattle.dots_script.specs.Checks.{ChecksSettings, ChecksScript, fault_report}
+use Rattle.dots_script.specs.Summary.{summary}
 use Rattle.dots_run.specs.declared.topic.Topic.{Topic}
 use Rattle.dots_run.specs.declared.topic.Topic.TheVariants as topic
 use Rattle.dots_run.specs.Load.{ReportsLoad}

@@ -6,10 +6,10 @@ use Rattle.dots_script.specs.Lines.{with_feed, with_feeds, IsFault}
 use Rattle.dots_script.proofs.OneAnswer.{one_line, no_fault_at_end, no_fault_at_event, stops_at_fault}
 use Rattle.dots_script.proofs.OneList.{one_list}
 use Rattle.dots_settings.specs.Lines.{lines_of}
-use Rattle.file_checks.specs.declared.checked.Checked.{Checked}
-use Rattle.file_checks.specs.declared.checked.Checked.TheVariants as checked
-use Rattle.file_checks.specs.Checks.{ChecksScript, script_report, line_in}
-use Rattle.file_checks.specs.Summary.{count_line}
+use Rattle.dots_script.specs.declared.checked.Checked.{Checked}
+use Rattle.dots_script.specs.declared.checked.Checked.TheVariants as checked
+use Rattle.dots_script.specs.Checks.{ChecksScript, script_report, line_in}
+use Rattle.dots_script.specs.Summary.{count_line}
 
 -- the text begins with no line of a script
 abbrev Breaks : List ℕ → Type 0

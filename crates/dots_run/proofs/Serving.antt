@@ -1,24 +1,27 @@
 -- What a server has done, from what its disk held.
-use Rattle.std.proofs.Common.{◌≡◌, ◌∙◌, ℕ, inl, inr, true, max, List, [], ◌++◌, Option, Some, None, sym, ap, subst, arith}
+use Rattle.std.proofs.Common.{◌≡◌, ◌∙◌, ℕ, inl, inr, true, max, List, [], ◌++◌, Option, Some, None, Err, sym, ap, subst, arith}
 use Rattle.std.specs.Prelude.{IfSome}
 use Rattle.std.specs.List.{list_all}
 use Rattle.dots_host.specs.Acts.{Timed}
 use Rattle.dots_host.specs.Runs.{Owing, resting, Added}
 use Rattle.dots_host.specs.Writing.{AppendsBeginning}
 use Rattle.dots_host.proofs.RunLemmas.{added_then}
-use Rattle.dots_disk.specs.Media.{Media}
-use Rattle.dots_disk.specs.Becoming.{Leaves, RestsWith}
-use Rattle.dots_disk.specs.Beside.{KeepsActs}
+use Rattle.dots_host.specs.Media.{Media}
+use Rattle.dots_host.specs.Becoming.{Leaves, RestsWith}
+use Rattle.dots_host.specs.Beside.{KeepsActs}
 use Rattle.slot_store.specs.Gates.{Sees}
 use Rattle.slot_store.specs.Opening.{Is}
 use Rattle.slot_store.proofs.Steps.{leaves_as}
 use Rattle.dots_settings.specs.Settings.{SettingsValue}
 use Rattle.dots_settings.specs.File.{SettingsAre}
 use Rattle.dots_history.specs.declared.entry.Entry.{Entry}
-use Rattle.dots_laws.specs.Calm.{is_own}
-use Rattle.dots_laws.specs.Fits.{is_calm, last_time}
-use Rattle.dots_laws.proofs.Composing.{kept_refl}
-use Rattle.dots_laws.proofs.Containing.{scrub_rows_inside, acl_rows_inside}
+use Rattle.dots_history.specs.Calm.{is_own}
+use Rattle.dots_history.specs.Fits.{is_calm, last_time}
+use Rattle.dots_history.proofs.Composing.{kept_refl}
+use Rattle.dots_history.proofs.Containing.{scrub_rows_inside, acl_rows_inside}
+use Rattle.slot_journal.specs.declared.fault.JournalFault.{JournalFault}
+use Rattle.slot_journal.specs.declared.fault.JournalFault.TheVariants as faults
+use Rattle.slot_journal.specs.Refused.{Caused}
 use Rattle.slot_journal.specs.DiskEntries.{HasEntries}
 use Rattle.slot_journal.specs.Kept.{HasKept}
 use Rattle.dots_machine.specs.declared.ending.Ending.{Ending}
@@ -34,7 +37,7 @@ use Rattle.dots_machine.specs.Endings.{has_hosted, IsKnown, by_disk, by_acts, Ne
 use Rattle.dots_machine.proofs.Laws.{keeps_laws}
 use Rattle.dots_machine.proofs.Surviving.{story_trace, survives_opening}
 use Rattle.dots_server.specs.Running.{Came, IsFollowed}
-use Rattle.dots_run.specs.Refusals.{Wrote}
+use Rattle.dots_run.specs.Refusals.{Wrote, FailsOnly, EndsSized}
 use Rattle.dots_server.proofs.Turning.{none_added}
 
 contained_by : (settings : SettingsValue) (state : State) → list_all (is_own settings) state.history ≡ true → Contained settings state
@@ -53,7 +56,7 @@ module _ (settings : SettingsValue) (stored : List Entry) (how : Stop) (before b
       → (Rests → NoneBefore (past_of between.media) acts × Survives settings from between.media now.media acts trace end.last.history) → HasRun settings from how before now trace end acts
   lived_by trace acts grows ran survived = record {
     ran = ran;
-    laws = keeps_laws settings from ran.whole ran.told ran.state (story_trace settings (resting from) (resting ran.state) ran.whole ran.told ran.run);
+    laws = keeps_laws settings from ran.whole ran.states ran.state (story_trace settings (resting from) (resting ran.state) ran.whole ran.states ran.run);
     survives = λ seen rests.
         let (late, survives) = survived (rested seen rests) in
         survives_opening settings from before.media between.media now.media acts trace end.last.history grows.0 grows.1 late (Is seen) rests
@@ -84,8 +87,8 @@ module _ (settings : SettingsValue) (stored : List Entry) (before between now : 
   abbrev pub WroteAny : Ending → Type 0
   WroteAny how = (stopped : Stop) × (state : State) × (list_all (is_own settings) state.history ≡ true) × Wrote how stopped settings state before now
 
-  pub serves_to : (how : Ending) → CameThere how → WroteAny how → ServesTo how settings before now
-  serves_to (ending.Served how) came any = record {
+  pub serves_to : (how : Ending) → EndsSized how → CameThere how → WroteAny how → ServesTo how settings before now
+  serves_to (ending.Served how) sized came any = record {
     stored = stored;
     calm = calm;
     was_stored = was_stored;
@@ -93,9 +96,10 @@ module _ (settings : SettingsValue) (stored : List Entry) (before between now : 
         let (stopped, end, there, wrote) = came told in
         lives_from settings stored how before between now end calm silent opened Rests rested (Reports how settings before now)
         (subst (λ h. Came settings (begun_from settings stored) h between.media now.media Rests between.acts now.acts end) (sym wrote.0) there) wrote.1;
+    sized = sized;
     any = (any.1, contained_by settings any.1 any.2, any.3.1);
   }
-  serves_to ending.ReportFailed came any = (
+  serves_to ending.ReportFailed sized came any = (
     record {
       stored = stored;
       calm = calm;
@@ -104,16 +108,17 @@ module _ (settings : SettingsValue) (stored : List Entry) (before between now : 
           let (stopped, end, there, wrote) = came told in
           lives_from settings stored stop.Ended before between now end calm silent opened Rests rested (λ state. AppendsBeginning before.written now.written (report_of settings state))
           (subst (λ h. Came settings (begun_from settings stored) h between.media now.media Rests between.acts now.acts end) (sym wrote.0) there) wrote.1;
+      sized = tt;
       any = (any.1, contained_by settings any.1 any.2, any.3.1);
     },
     any.3.2,
   )
-  serves_to ending.WrongWords came any = absurd any.3
-  serves_to (ending.Printed how) came any = absurd any.3
-  serves_to (ending.Refused fault) came any = absurd any.3
-  serves_to ending.SettingsFailed came any = absurd any.3
-  serves_to ending.NoMemory came any = absurd any.3
-  serves_to (ending.Unrecovered fault) came any = absurd any.3
+  serves_to ending.WrongWords sized came any = absurd any.3
+  serves_to (ending.Printed how) sized came any = absurd any.3
+  serves_to (ending.Refused fault) sized came any = absurd any.3
+  serves_to ending.SettingsFailed sized came any = absurd any.3
+  serves_to ending.NoMemory sized came any = absurd any.3
+  serves_to (ending.Unrecovered fault) sized came any = absurd any.3
 
 -- where no restart was taken since, none was taken from there on
 pub never_since : (xs ys zs : Option (List Timed)) → KeepsActs xs ys → Added ys zs (λ _. Unit {0}) → NeverRestarts xs zs → NeverRestarts ys zs
@@ -150,3 +155,11 @@ behaves_hosted words before now (ending.Printed how) hosted served settings are 
 behaves_hosted words before now (ending.Refused fault) hosted served settings are serves = absurd (cc hosted)
 behaves_hosted words before now ending.SettingsFailed hosted served settings are serves = absurd (cc hosted)
 behaves_hosted words before now ending.NoMemory hosted served settings are serves = absurd (cc hosted)
+
+-- a disk that isn't recovered failed, or the count of its faults stayed
+pub unrecovered_counts : (A : Type 0) (fault : JournalFault) (before now : ℕ) → Caused {A = A} before now (Err fault) → FailsOnly (ending.Unrecovered fault) before now
+unrecovered_counts A faults.DiskFault before now caused = tt
+unrecovered_counts A faults.NoMemory before now caused = caused
+unrecovered_counts A (faults.NotOurs at) before now caused = caused
+unrecovered_counts A (faults.SettingsChanged stored given) before now caused = caused
+unrecovered_counts A (faults.TooSmall needed found) before now caused = caused

@@ -12,8 +12,8 @@ use Rattle.dots_machine.specs.declared.ending.Ending.{Ending}
 use Rattle.dots_machine.specs.declared.ending.Ending.TheVariants as ending
 use Rattle.dots_machine.specs.declared.ending.Stop.{Stop}
 use Rattle.dots_machine.specs.declared.ending.Stop.TheVariants as stop
-use Rattle.dots_disk.specs.Media.{byte_of, blank}
-use Rattle.dots_disk.specs.Beside.{KeepsActs}
+use Rattle.dots_host.specs.Media.{byte_of, blank}
+use Rattle.dots_host.specs.Beside.{KeepsActs}
 use Rattle.slot_store.specs.Gates.{Sees}
 use Rattle.slot_journal.proofs.Crashing.{one_history, zeros_have_nothing}
 use Rattle.dots_machine.specs.Machine.{State, begun_from}
@@ -36,14 +36,14 @@ no_more (act ∷ acts) seen blocks are keeps = absurd (subst (λ seen. AreSeen n
 
 -- the disk of a script's host is told, and holds nothing before the first call
 module _ (words : List (List ℕ)) (before after : Outside) (acts seen : List Timed) (blocks : Blocks) (handed_on : AreSeen no_blocks acts seen blocks)
-    (none : before.acts ≡ Some []) (some : after.acts ≡ Some seen) (empty : before.media ≡ Some (blank [])) (start now : Outer) (accounts : Accounts start now acts) where
+    (none : before.acts ≡ Some []) (some : after.acts ≡ Some seen) (empty : before.media ≡ Some (blank [])) (handed : Option (List Timed)) (told : handed ≡ Some acts) (start now : Outer) (accounts : Accounts start now acts) where
   sees_zeros : Sees before.media (byte_of [])
   sees_zeros = subst (λ media. Sees media (byte_of [])) (sym empty) refl
 
   stored_nothing : (settings : SettingsValue) (how : Stop) (wrote : State → Type 0) (serves : Serves settings how before after wrote) → serves.stored ≡ []
   stored_nothing settings how wrote serves = one_history settings (byte_of []) serves.stored [] (serves.was_stored (byte_of []) sees_zeros) (zeros_have_nothing settings)
 
-  served : (settings : SettingsValue) (how : Stop) (wrote : State → Type 0) → Serves settings how before after wrote → Replays settings how before after start now wrote
+  served : (settings : SettingsValue) (how : Stop) (wrote : State → Type 0) → Serves settings how before after wrote → Replays settings how before after handed start now wrote
   served settings how wrote serves =
       let runs_from = subst (λ stored. RunsFrom settings stored how before after wrote) (stored_nothing settings how wrote serves) (serves.runs_from (by_disk (byte_of []) sees_zeros)) in
       let has_run : Added (Some []) (Some seen) (HasRun settings (begun_from settings []) how before after runs_from.trace runs_from.end) =
@@ -51,7 +51,9 @@ module _ (words : List (List ℕ)) (before after : Outside) (acts seen : List Ti
       (subst (λ new. Added before.acts new (HasRun settings (begun_from settings []) how before after runs_from.trace runs_from.end)) some runs_from.has_run) in
       record {
         acts = acts;
+        acts_are = told;
         seen = seen;
+        seen_are = some;
         blocks = blocks;
         handed_on = handed_on;
         end = runs_from.end;
@@ -61,7 +63,7 @@ module _ (words : List (List ℕ)) (before after : Outside) (acts seen : List Ti
         reports = runs_from.reports;
       }
 
-  pub joins : (how : Ending) → Behaves how words before after → (has_hosted how ≡ false → now ≡ start) → JoinsTexts how before after start now
+  pub joins : (how : Ending) → Behaves how words before after → (has_hosted how ≡ false → now ≡ start) → JoinsTexts how before after handed start now
   joins ending.WrongWords behaves same = same refl
   joins (ending.Printed showing) behaves same = same refl
   joins (ending.Refused fault) behaves same = same refl
@@ -78,7 +80,7 @@ module _ (words : List (List ℕ)) (before after : Outside) (acts seen : List Ti
 pub joins_blocks : (words : List (List ℕ)) (status : ℕ) (before now : Outside) (acts : List Timed) (uncalled : Type 0) → before.acts ≡ Some [] → now.acts ≡ Some acts
     → before.media ≡ Some (blank []) → (start end : Outer) → Accounts start end acts → (uncalled → end ≡ start) → RunsInBlocks words status before now uncalled
     → (how : Ending) × (seen : List Timed) × (status ≡ status_of how) × IsSeenFrom before.acts now.acts (Some seen) × Behaves how words before (seeing now (Some seen))
-    × JoinsTexts how before (seeing now (Some seen)) start end
+    × JoinsTexts how before (seeing now (Some seen)) now.acts start end
 joins_blocks words status before now acts uncalled none some empty start end accounts stays did =
     let from : HandsOn [] acts did.seen = subst (λ old. IsSeenFrom old (Some acts) did.seen) none (subst (λ new. IsSeenFrom before.acts new did.seen) some did.handed_on) in
     let behaves = subst (λ seen. Behaves did.ending words before (seeing now seen)) from.seen_is did.behaves in
@@ -88,7 +90,7 @@ joins_blocks words status before now acts uncalled none some empty start end acc
       did.status_is,
       subst (IsSeenFrom before.acts now.acts) from.seen_is did.handed_on,
       behaves,
-      joins words before (seeing now (Some from.outers)) acts from.outers from.blocks handed_on none refl empty start end accounts did.ending behaves (λ idle. stays (did.idle idle)),
+      joins words before (seeing now (Some from.outers)) acts from.outers from.blocks handed_on none refl empty now.acts some start end accounts did.ending behaves (λ idle. stays (did.idle idle)),
     )
 
 nothing_ahead : (left : Option (List ℕ)) → to_come [] left ≡ left

@@ -16,28 +16,28 @@ use Rattle.coap_message.specs.Message.{CoapMessage, CoapOption, IsMessage, spell
 use Rattle.coap_message.proofs.Whole.{one_message}
 use Rattle.coap_observe.specs.Seen.{Lists}
 use Rattle.coap_observe.specs.Observed.{ObservedValue}
-use Rattle.dots_heads.specs.declared.reject.Reject.{Reject}
-use Rattle.dots_heads.specs.declared.reject.Reject.TheVariants as reject
-use Rattle.dots_heads.specs.declared.request.Content.{Content}
-use Rattle.dots_heads.specs.declared.request.Observe.{Observe}
-use Rattle.dots_heads.specs.declared.request.Observe.TheVariants as observe
-use Rattle.dots_heads.specs.declared.request.MitigationPath.{MitigationPath}
-use Rattle.dots_heads.specs.Heads.{Head, head_of, observe_of, refuse_critical, refuse_hop_limit, refuse_media, refuse_format, content_of}
-use Rattle.dots_heads.specs.Options.{value_of, values_of, first_critical}
-use Rattle.dots_heads.specs.Operations.{Operation, method_of, operation_of, put_mitigation, get_mitigation, delete_mitigation, put_config, get_config, delete_config, put_heartbeat}
-use Rattle.dots_heads.specs.Results.{◌>>=◌}
-use Rattle.dots_heads.specs.Paths.{Resource, resource_at}
-use Rattle.dots_heads.specs.declared.operation.Method.{Method}
+use Rattle.dots_keys.specs.declared.reject.Reject.{Reject}
+use Rattle.dots_keys.specs.declared.reject.Reject.TheVariants as reject
+use Rattle.dots_keys.specs.declared.head_request.Content.{Content}
+use Rattle.dots_keys.specs.declared.head_request.Observe.{Observe}
+use Rattle.dots_keys.specs.declared.head_request.Observe.TheVariants as observe
+use Rattle.dots_keys.specs.declared.head_request.MitigationPath.{MitigationPath}
+use Rattle.dots_keys.specs.Heads.{Head, head_of, observe_of, refuse_critical, refuse_hop_limit, refuse_media, refuse_format, content_of}
+use Rattle.dots_keys.specs.Options.{value_of, values_of, first_critical}
+use Rattle.dots_keys.specs.Operations.{Operation, method_of, operation_of, put_mitigation, get_mitigation, delete_mitigation, put_config, get_config, delete_config, put_heartbeat}
+use Rattle.dots_keys.specs.Results.{◌>>=◌}
+use Rattle.dots_keys.specs.Paths.{Resource, resource_at}
+use Rattle.dots_keys.specs.declared.operation.Method.{Method}
 use Rattle.dots_settings.specs.Settings.{SettingsValue}
 use Rattle.dots_settings.specs.Lookups.{role_of}
-use Rattle.coap_replies.specs.declared.dismissal.Dismissal.{Dismissal}
-use Rattle.coap_replies.specs.declared.dismissal.Dismissal.TheVariants as dismissal
-use Rattle.coap_replies.specs.declared.exchange.Exchange.{Exchange}
+use Rattle.dots_keys.specs.declared.dismissal.Dismissal.{Dismissal}
+use Rattle.dots_keys.specs.declared.dismissal.Dismissal.TheVariants as dismissal
+use Rattle.dots_keys.specs.declared.exchange.Exchange.{Exchange}
 use Rattle.dots_machine.specs.declared.watching.Watching.{Watching}
 use Rattle.dots_machine.specs.declared.watching.Watching.TheVariants as watching
 use Rattle.dots_machine.specs.Verdict.{Verdict}
 use Rattle.dots_machine.specs.Domains.{is_gateway, domain_for}
-use Rattle.coap_replies.specs.Exchanges.{exchange_in, dismissed}
+use Rattle.dots_keys.specs.Exchanges.{exchange_in, dismissed}
 use Rattle.dots_machine.specs.Observing.{bodies_at, asked_in, in_known, asked_of, asked_by, unless_dismissed, watching_in, Watches, by_message, unreadable, by_stranger, is_unavailable, observing}
 use Rattle.dots_machine.specs.Answering.{IsHandedIn}
 use Rattle.dots_machine.specs.Replies.{unavailable as refused}
@@ -46,8 +46,8 @@ use Rattle.dots_machine.proofs.Connections.{opens_observers, opens_once}
 use Rattle.dots_machine.proofs.Hearing.{left, hears_observers, after_observers, hears_once}
 use Rattle.dots_machine.proofs.OneAnswer.{one_verdict, says, same_replies, same_left}
 use Rattle.session_core.specs.declared.contact.PeerContact.{PeerContact}
-use Rattle.dots_notices.specs.Beats.{beats, after_beats}
-use Rattle.dots_notices.specs.Notifying.{Notifies}
+use Rattle.session_core.specs.Beats.{beats, after_beats}
+use Rattle.session_core.specs.Notifying.{Notifies}
 use Rattle.dots_load.specs.Datagrams.{EachComing, AreBytes}
 use Rattle.dots_load.specs.Deciding.{IsDecided}
 use Rattle.dots_load.specs.Events.{sends, event_by, load_event, events_to, load_events}
@@ -177,15 +177,15 @@ none_left settings lists peer asked decided replies observed none is = subst (λ
     by_asked watching.Nothing none = refl
 
 -- nobody is told
-tells_none : (settings : SettingsValue) (state new : State) (sends : List OwnedOut) → state.observers ≡ [] → Notified settings state sends new → (sends ≡ []) × (new ≡ state) × (new.observers ≡ [])
-tells_none settings state new sends none n = (
+notifies_none : (settings : SettingsValue) (state new : State) (sends : List OwnedOut) → state.observers ≡ [] → Notified settings state sends new → (sends ≡ []) × (new ≡ state) × (new.observers ≡ [])
+notifies_none settings state new sends none n = (
   told.0,
-  n.3 ∙ ap (λ os. with_told os n.1) (told.1 ∙ sym none) ∙ ap (λ contacts. with_told state.observers contacts) told.2,
+  n.3 ∙ ap (λ os. after_notices os n.1) (told.1 ∙ sym none) ∙ ap (λ contacts. after_notices state.observers contacts) told.2,
   ap (λ (s : State). s.observers) n.3 ∙ told.1,
 )
   where
-    with_told : List ObservedValue → List PeerContact → State
-    with_told observers contacts = record state { observers = observers; contacts = contacts }
+    after_notices : List ObservedValue → List PeerContact → State
+    after_notices observers contacts = record state { observers = observers; contacts = contacts }
 
     told : (sends ≡ []) × (n.0 ≡ []) × (n.1 ≡ state.contacts)
     told = subst (λ os. Notifies (seen_in settings state) (bodies_at settings state.time state.history) os state.contacts sends n.0 n.1) none n.2
@@ -214,7 +214,7 @@ module _ (settings : SettingsValue) (state : State) (peer : ℕ) (bytes : List �
       (after_observers a.decided a.met ∙ hears_observers settings peer bytes state a.met a.hears ∙ none)
 
   answered_none : (sends : List OwnedOut) (new : State) (a : Answers settings state peer bytes sends new) → (a.notices ≡ []) × (new ≡ left settings state peer bytes sends new a) × (new.observers ≡ [])
-  answered_none sends new a = tells_none settings (left settings state peer bytes sends new a) new a.notices (left_none sends new a) a.notified
+  answered_none sends new a = notifies_none settings (left settings state peer bytes sends new a) new a.notices (left_none sends new a) a.notified
 
   answered_one : (sends others : List OwnedOut) (new last : State) → Answers settings state peer bytes sends new → Answers settings state peer bytes others last
       → count_by unavailable sends ≡ 0 → count_by unavailable others ≡ 0 → (sends ≡ others) × (new ≡ last)
@@ -240,7 +240,7 @@ ticked_none : (settings : SettingsValue) (state new : State) (sends : List Owned
     → (sends ≡ beats (beating settings (lapsed settings state)) state.time (lapsed settings state).contacts)
     × (new ≡ record (lapsed settings state) { contacts = after_beats (beating settings (lapsed settings state)) state.time (lapsed settings state).contacts }) × (new.observers ≡ [])
 ticked_none settings state new sends none t =
-    let told = tells_none settings (lapsed settings state) t.told t.notices none t.notified in (
+    let told = notifies_none settings (lapsed settings state) t.between t.notices none t.notified in (
       t.sends_are ∙ ap (λ notices. notices ++ t.heartbeats) told.0 ∙ t.beaten.0 ∙ ap (λ (s : State). beats (beating settings s) s.time s.contacts) told.1,
       t.beaten.1 ∙ ap beaten told.1,
       ap (λ (s : State). s.observers) t.beaten.1 ∙ told.2,
@@ -294,12 +294,12 @@ decided settings old event.Tick at owed others new last are (none, unwatching, a
 decided settings old event.Restart at owed others new last are (none, unwatching, a) (too, also, b) nought nil = rests owed others new last (restarted settings old at) a b
 
 -- ---- and so it is over a run
-told_unwatched : (settings : SettingsValue) (old between : Owing State) (act : WireAct) (told : State) (later : List Coming) → EachComing AreBytes (coming_by act ++ later) → EachComing Unwatching (coming_by act ++ later)
+sent_unwatched : (settings : SettingsValue) (old between : Owing State) (act : WireAct) (told : State) (later : List Coming) → EachComing AreBytes (coming_by act ++ later) → EachComing Unwatching (coming_by act ++ later)
     → old.last.observers ≡ [] → ToldStep (Step settings) old act told between
     → ToldStep (UnwatchedStep settings) old act told between × (between.last.observers ≡ []) × EachComing AreBytes later × EachComing Unwatching later
-told_unwatched settings old between (took event at) told later are each none s =
+sent_unwatched settings old between (took event at) told later are each none s =
     ((s.0, (none, each.0, s.1)), step_none settings old.last event at between.owed between.last are.0 none each.0 s.1, are.1, each.1)
-told_unwatched settings old between (gave out done) told later are each none s = (s, ap (λ (s : State). s.observers) s.1 ∙ none, are, each)
+sent_unwatched settings old between (gave out done) told later are each none s = (s, ap (λ (s : State). s.observers) s.1 ∙ none, are, each)
 
 pub unwatched_trace : (settings : SettingsValue) (old : Owing State) (acts : List Timed) (trace : List State) (new : Owing State) → EachComing AreBytes (coming_in acts) → EachComing Unwatching (coming_in acts)
     → old.last.observers ≡ [] → Trace (Step settings) old acts trace new → Trace (UnwatchedStep settings) old acts trace new
@@ -307,7 +307,7 @@ unwatched_trace settings old [] [] new are each none t = t
 unwatched_trace settings old [] (told ∷ trace) new are each none t = absurd t
 unwatched_trace settings old (timed ∷ acts) [] new are each none t = absurd t
 unwatched_trace settings old (timed ∷ acts) (told ∷ trace) new are each none t =
-    let one = told_unwatched settings old t.0 timed.act told (coming_in acts) are each none t.1 in
+    let one = sent_unwatched settings old t.0 timed.act told (coming_in acts) are each none t.1 in
     (t.0, one.0, unwatched_trace settings t.0 acts trace new one.2 one.3 one.1 t.2)
 
 -- ---- the events of a generated run

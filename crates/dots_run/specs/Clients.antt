@@ -1,8 +1,8 @@
 -- What a run of a client over real sockets has done, and what is told of a client's settings.
 use Rattle.std.specs.Prelude.{◌≡◌, ℕ, ◌<◌, ◌^◌, false, List, Option, Result}
 use Rattle.dots_edge.specs.Edge.{Edge, acts_told}
-use Rattle.file_checks.specs.declared.checked.Checked.{Checked}
-use Rattle.file_checks.specs.declared.checked.Unchecked.{Unchecked}
+use Rattle.dots_script.specs.declared.checked.Checked.{Checked}
+use Rattle.dots_script.specs.declared.checked.Unchecked.{Unchecked}
 use Rattle.ask_agent.specs.Checking.{ChecksAsk}
 use Rattle.ask_agent.specs.declared.firsts.Firsts.{Firsts}
 use Rattle.ask_agent.specs.Numbers.{mid_at, number_at}

@@ -1,8 +1,8 @@
 -- What is told of a settings file and a host file, and what was written of it.
 use Rattle.std.specs.Prelude.{◌≡◌, ◌⊎◌, ℕ, Bool, false, ◌&&◌, if◌then◌else◌, List, [], ◌∷◌, bytes_eq, codes, Option, Some, None, IfSome, Result, Ok, Err, ⊤}
-use Rattle.file_checks.specs.declared.checked.Checked.{Checked}
-use Rattle.file_checks.specs.declared.checked.Unchecked.{Unchecked}
-use Rattle.file_checks.specs.declared.checked.Unchecked.TheVariants as unchecked
+use Rattle.dots_script.specs.declared.checked.Checked.{Checked}
+use Rattle.dots_script.specs.declared.checked.Unchecked.{Unchecked}
+use Rattle.dots_script.specs.declared.checked.Unchecked.TheVariants as unchecked
 use Rattle.host_checks.specs.declared.files.Task.{Task}
 use Rattle.host_checks.specs.declared.files.Task.TheVariants as task
 use Rattle.host_checks.specs.declared.filtering.FilterForm.TheVariants as form

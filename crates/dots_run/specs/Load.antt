@@ -11,10 +11,10 @@ use Rattle.dots_machine.specs.Surviving.{Story}
 use Rattle.dots_load.specs.Domains.{settings_text}
 use Rattle.dots_load.specs.Events.{load_events}
 use Rattle.dots_load.specs.Report.{coming_in, NoneUnavailable, load_text}
-use Rattle.file_checks.specs.declared.checked.Checked.{Checked}
-use Rattle.file_checks.specs.declared.checked.Checked.TheVariants as checked
-use Rattle.file_checks.specs.declared.checked.Unchecked.{Unchecked}
-use Rattle.file_checks.specs.declared.checked.Unchecked.TheVariants as unchecked
+use Rattle.dots_script.specs.declared.checked.Checked.{Checked}
+use Rattle.dots_script.specs.declared.checked.Checked.TheVariants as checked
+use Rattle.dots_script.specs.declared.checked.Unchecked.{Unchecked}
+use Rattle.dots_script.specs.declared.checked.Unchecked.TheVariants as unchecked
 
 -- how many rows of mitigations filter in a state
 abbrev pub rows_of : State → ℕ

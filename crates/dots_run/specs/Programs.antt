@@ -30,7 +30,7 @@ pub record Runs (words : List (List ℕ)) (status : ℕ) (before now : Outside) 
   -- handed on. From text to text: what the machine sends on the events of the script's lines stands line by line in the sink, as it was handed
   -- on, and the machine's report in the report.
   pub machine : topic_of words ≡ None → (ending : Ending) × (seen : List Timed) × (status ≡ status_of ending) × IsSeenFrom before.acts now.acts (Some seen)
-      × Behaves ending words before (seeing now (Some seen)) × JoinsTexts ending before (seeing now (Some seen)) start end
+      × Behaves ending words before (seeing now (Some seen)) × JoinsTexts ending before (seeing now (Some seen)) now.acts start end
   -- what is told without serving
   pub told : (topic : Topic) → topic_of words ≡ Some topic → HasReported topic status before now start end
   -- what the status says of the words, of the settings and of what failed

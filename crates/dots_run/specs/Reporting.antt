@@ -2,11 +2,11 @@
 use Rattle.std.specs.Prelude.{◌≡◌, ◌⊎◌, ℕ, Bool, true, false, List, Option, Some, IfSome, Result, Ok, Err, ⊤}
 use Rattle.std.specs.Io.KnownBytes.{Appends}
 use Rattle.dots_host.specs.Writing.{AppendsBeginning, Writes}
-use Rattle.file_checks.specs.declared.checked.Checked.{Checked}
-use Rattle.file_checks.specs.declared.checked.Checked.TheVariants as checked
-use Rattle.file_checks.specs.declared.checked.Unchecked.{Unchecked}
-use Rattle.file_checks.specs.declared.checked.Unchecked.TheVariants as unchecked
-use Rattle.file_checks.specs.Checks.{ChecksSettings, ChecksScript}
+use Rattle.dots_script.specs.declared.checked.Checked.{Checked}
+use Rattle.dots_script.specs.declared.checked.Checked.TheVariants as checked
+use Rattle.dots_script.specs.declared.checked.Unchecked.{Unchecked}
+use Rattle.dots_script.specs.declared.checked.Unchecked.TheVariants as unchecked
+use Rattle.dots_script.specs.Checks.{ChecksSettings, ChecksScript}
 use Rattle.dots_run.specs.declared.topic.Topic.{Topic}
 use Rattle.dots_run.specs.declared.topic.Topic.TheVariants as topic
 use Rattle.dots_run.specs.declared.topic_outcome.TopicOutcome.{TopicOutcome}

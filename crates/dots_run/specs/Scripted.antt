@@ -3,8 +3,8 @@ use Rattle.std.specs.Prelude.{◌≡◌, ◌^◌, List, ℕ, [], Option, Some, I
 use Rattle.dots_host.specs.Acts.{Timed}
 use Rattle.dots_host.specs.Runs.{Owing}
 use Rattle.dots_host.specs.Writing.{AppendsBeginning}
-use Rattle.dots_disk.specs.Media.{blank}
-use Rattle.dots_disk.specs.Logged.{media_since, acts_told}
+use Rattle.dots_host.specs.Media.{blank}
+use Rattle.dots_host.specs.Logged.{media_since, acts_told}
 use Rattle.coap_block.specs.Blocks.{Blocks}
 use Rattle.coap_block.specs.Around.{AreSeen, no_blocks}
 use Rattle.dots_script.specs.Accounts.{Outer, Accounts}
@@ -50,9 +50,11 @@ outside_with left source_faults host written report_faults = record {
 -- Some acts are a run of the machine with these settings from an empty disk, which stops so, keeps the laws, and survives a crash at any moment.
 -- The acts of the host are the same ones as they were handed on, with replies in blocks: their events are, in order, those of the script's lines,
 -- and their sends are, line by line, what the sink of sends was written. Of the last state this was written.
-pub record Replays (settings : SettingsValue) (how : Stop) (before after : Outside) (start now : Outer) (wrote : State → Type 0) : Type 0 where
+pub record Replays (settings : SettingsValue) (how : Stop) (before after : Outside) (handed : Option (List Timed)) (start now : Outer) (wrote : State → Type 0) : Type 0 where
   pub acts : List Timed
+  pub acts_are : handed ≡ Some acts
   pub seen : List Timed
+  pub seen_are : after.acts ≡ Some seen
   pub blocks : Blocks
   pub handed_on : AreSeen no_blocks acts seen blocks
   pub end : Owing State
@@ -61,11 +63,12 @@ pub record Replays (settings : SettingsValue) (how : Stop) (before after : Outsi
   pub accounts : Accounts start now acts
   pub reports : wrote end.last
 
-abbrev pub JoinsTexts : Ending → Outside → Outside → Outer → Outer → Type 0
-JoinsTexts (ending.Served how) before after start now =
-    (settings : SettingsValue) × IfSome before.left (λ bytes. SettingsAre bytes settings) × Replays settings how before after start now (Reports how settings before after)
-JoinsTexts ending.ReportFailed before after start now =
+-- What a run over a script comes to, by its ending. It saw the acts that stand outside in the end, and these are those of its host.
+abbrev pub JoinsTexts : Ending → Outside → Outside → Option (List Timed) → Outer → Outer → Type 0
+JoinsTexts (ending.Served how) before after handed start now =
+    (settings : SettingsValue) × IfSome before.left (λ bytes. SettingsAre bytes settings) × Replays settings how before after handed start now (Reports how settings before after)
+JoinsTexts ending.ReportFailed before after handed start now =
     (settings : SettingsValue) × IfSome before.left (λ bytes. SettingsAre bytes settings)
-    × Replays settings stop.Ended before after start now (λ state. AppendsBeginning before.written after.written (report_of settings state))
-JoinsTexts (ending.Unrecovered fault) before after start now = Accounts start now []
-JoinsTexts _ before after start now = now ≡ start
+    × Replays settings stop.Ended before after handed start now (λ state. AppendsBeginning before.written after.written (report_of settings state))
+JoinsTexts (ending.Unrecovered fault) before after handed start now = Accounts start now []
+JoinsTexts _ before after handed start now = now ≡ start

@@ -3,7 +3,7 @@ use Rattle.std.specs.Prelude.{ℕ, List, [], ◌∷◌, Bool, false, ◌&&◌, �
 use Rattle.dots_run.specs.declared.topic.Topic.{Topic}
 use Rattle.dots_run.specs.declared.topic.Topic.TheVariants as topic
 use Rattle.std.specs.Option.{option_map}
-use Rattle.plain_text.specs.Numbers.{number_in}
+use Rattle.dots_lists.specs.Numbers.{number_in}
 use Rattle.dots_machine.specs.Commands.{is_word, is_served, is_command}
 
 -- `check SETTINGS`

@@ -3,7 +3,7 @@
 ghost use Rattle.std.specs.Prelude.{◌≡◌, ◌≤◌, ◌++◌, ◌⊎◌, ℕ, List, map, string_bytes, true, Some, None};
 ghost use Rattle.dots_host.specs.Acts.{Timed};
 ghost use Rattle.dots_host.specs.Causes.{Rose};
-ghost use Rattle.dots_disk.specs.Becoming.{RestsWith};
+ghost use Rattle.dots_host.specs.Becoming.{RestsWith};
 ghost use Rattle.slot_store.specs.Gates.{Sees};
 ghost use Rattle.slot_store.specs.Opening.{Is};
 ghost use Rattle.slot_store.specs.Layout.{needed_of};
@@ -21,8 +21,7 @@ ghost use Rattle.dots_run.specs.Leaving.{CrashLeaves, HasServed, GoesOn};
 ghost use Rattle.dots_run.specs.Topics.{topic_of};
 
 use crate::running::run;
-use dots_disk::Host;
-use dots_host::{Sink, Source};
+use dots_host::{Host, Sink, Source};
 use std::alloc::Global;
 
 /// Runs over a host, and then over another one, on whose disk a crash at any moment of the first run left an image. Answers both exit statuses.

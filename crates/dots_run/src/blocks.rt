@@ -14,8 +14,7 @@ ghost use Rattle.dots_run.specs.Blocks.{RunsInBlocks};
 use crate::running::run;
 use crate::words::is_served;
 use coap_block::BlockHost;
-use dots_disk::Host;
-use dots_host::{Sink, Source};
+use dots_host::{Host, Sink, Source};
 use std::alloc::Global;
 
 /// The exit status where no memory is found.

@@ -1,7 +1,7 @@
 //! What the definitions come to: the contract is a law, and the body does nothing.
 
 ghost use Rattle.std.specs.Prelude.{◌≡◌, ℕ, List, Option};
-ghost use Rattle.file_checks.specs.declared.checked.Checked.{Checked};
+ghost use Rattle.dots_script.specs.declared.checked.Checked.{Checked};
 ghost use Rattle.dots_run.specs.Load.{LoadReported};
 ghost use Rattle.dots_run.specs.Reporting.{IsOf};
 

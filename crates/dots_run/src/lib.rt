@@ -4,7 +4,7 @@
 //!
 //! What the program tells without serving, [`report_topic`] writes: what a settings file or a script comes to, or its first fault and why it is one;
 //! how the program is called; and its version. That text is a function of the [`Topic`] and of the bytes of the source ([`one_text`]):
-//! `specs/Reporting.antt` says which, `specs/Usage.antt` has the texts that no file decides, and those of files are in `file_checks`.
+//! `specs/Reporting.antt` says which, `specs/Usage.antt` has the texts that no file decides, and those of files are in `dots_script`.
 //!
 //! A client over sockets is [`ask_sockets`], one that asks once [`protect_sockets`], and what the settings of a client come to
 //! [`check_client`] tells: `specs/Clients.antt`. A gateway over sockets is [`gateway_sockets`]: `specs/Gateways.antt`.

@@ -2,12 +2,11 @@
 
 ghost use Rattle.std.specs.Prelude.{◌≡◌, [], true, length, string_bytes, IfOk};
 ghost use Rattle.dots_host.specs.Acts.{wire_acts};
-ghost use Rattle.dots_disk.specs.Hosted.{HandsOut};
+ghost use Rattle.dots_host.specs.Hosted.{HandsOut};
 ghost use Rattle.filter_table.specs.TableRows.{active_rows};
 ghost use Rattle.dots_run.specs.Load.{LoadReported, RunsToEnd};
 
-use dots_disk::MemoryHost;
-use dots_host::MAX_EVENT_BYTES;
+use dots_host::{MAX_EVENT_BYTES, MemoryHost};
 use dots_lists::NoMemory;
 use dots_load::{is_served, load_settings, loaded_host, report_of};
 use dots_server::{Server, take_events};

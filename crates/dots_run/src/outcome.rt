@@ -2,12 +2,12 @@
 
 ghost use Rattle.std.specs.Prelude.{◌≡◌, ◌≢◌, ◌≤◌, ◌⊎◌, ◌↔◌, ℕ, List, Option, map, false, true, string_bytes, IfOk, OnErr, ⊤};
 ghost use Rattle.std.specs.List.{list_all};
-ghost use Rattle.dots_disk.specs.Becoming.{RestsWith};
+ghost use Rattle.dots_host.specs.Becoming.{RestsWith};
 ghost use Rattle.dots_host.specs.Causes.{Rose};
 ghost use Rattle.dots_host.specs.Runs.{Owing, Added};
-ghost use Rattle.dots_settings.specs.Settings.{SettingsValue};
+ghost use Rattle.dots_settings.specs.Settings.{SettingsValue, IsSettings};
 ghost use Rattle.dots_history.specs.declared.entry.Entry.{Entry};
-ghost use Rattle.dots_laws.specs.Calm.{is_own};
+ghost use Rattle.dots_history.specs.Calm.{is_own};
 ghost use Rattle.slot_store.specs.Layout.{needed_of};
 ghost use Rattle.slot_journal.specs.DiskEntries as journal;
 ghost use Rattle.dots_machine.specs.declared.ending.Ending as endings;
@@ -19,17 +19,16 @@ ghost use Rattle.dots_machine.specs.Machine.{State};
 ghost use Rattle.dots_machine.specs.Outside.{Outside, outside};
 ghost use Rattle.dots_server.specs.ServerValues.{IsKept};
 ghost use Rattle.dots_server.specs.Running.{Came, IsFollowed};
-ghost use Rattle.dots_run.specs.Refusals.{Counts, Wrote, WritesStop};
+ghost use Rattle.dots_run.specs.Refusals.{Counts, Wrote, WritesStop, FailsOnly, EndsSized};
+ghost use Rattle.dots_run.specs.Outcomes.{IsTooSmall};
 
 use crate::words::{is_served, word_to_show};
-use dots_disk::Host;
-use dots_host::{MAX_EVENT_BYTES, Sink, Source, write_all};
+use coap_message::{Printed, lines_of};
+use dots_host::{Host, MAX_EVENT_BYTES, Sink, Source, write_all};
 use dots_lists::NoMemory;
-use dots_machine::{Ending, Printing, Stop};
+use dots_machine::{Ending, Printing, Stop, write_refusal};
 use dots_server::{Server, take_events};
 use dots_settings::{Settings, SettingsFault, read_settings};
-use message_text::{Printed, lines_of};
-use refusal_lines::write_refusal;
 use std::alloc::Global;
 
 /// Does what the words ask of the machine, and answers the exit status. With `replay SETTINGS` the settings are read
@@ -60,8 +59,10 @@ pub fn run_machine<H: Host, S: Source, K: Sink>(
     // What isn't called: neither settings nor host for other words, nor the host where nothing was served.
     ensures unread { is_served (map string_bytes words.now) ≡ false → (settings.new ≡ settings.old) × (host.new ≡ host.old) }
     ensures uncalled { 1 ≤ result → result ≤ 3 → host.new ≡ host.old }
-    // When there must have been a failure of the disk.
+    // When there must have been a failure of the disk, and when there was none; and when the disk is too small, whatever it tells of its content.
     ensures disk { result ≡ 6 → Rose (H.Disk.faults host.old) (H.Disk.faults host.new) }
+    ensures unfailed { result ≢ 6 → H.Disk.faults host.new ≡ H.Disk.faults host.old }
+    ensures small { result ≡ 10 → IsTooSmall (S.left settings.old) (H.extent host.old) }
     // When the settings are refused, and when a run must go well, want of memory and 2^40 events without End aside: where the disk holds what a
     // server leaves there.
     ensures refused { is_served (map string_bytes words.now) ≡ true → GivesFault (S.left settings.old)
@@ -92,6 +93,7 @@ fn ending_of<H: Host, S: Source, K: Sink>(
         (outside (S.left settings.new) (S.faults settings.new) (H.acts host.new) (H.Wire.faults host.new) (H.media host.new) (H.extent host.new) (H.Disk.faults host.new) (K.holds report.new) (K.faults report.new)) }
     ensures leads { H.leads host.old host.new }
     ensures heard { (result ≡ ending.NoMemory) ⊎ (result ≡ ending.SettingsFailed) ⊎ (S.faults settings.new ≡ S.faults settings.old) }
+    ensures counts { FailsOnly result (H.Disk.faults host.old) (H.Disk.faults host.new) }
     ensures untouched { is_served (map string_bytes words.now) ≡ false → (settings.new ≡ settings.old) × (host.new ≡ host.old) }
     ensures uncalled { has_hosted result ≡ false → host.new ≡ host.old }
 {
@@ -141,9 +143,11 @@ fn host_events<H: Host, K: Sink>(
     host: &mut H,
     report: &mut K,
 ) -> Ending
+    requires valid { IsSettings settings }
     ensures machine { (left left_now : Option (List ℕ)) (faults faults_now : ℕ) → ServesTo result settings
         (outside left faults (H.acts host.old) (H.Wire.faults host.old) (H.media host.old) (H.extent host.old) (H.Disk.faults host.old) (K.holds report.old) (K.faults report.old))
         (outside left_now faults_now (H.acts host.new) (H.Wire.faults host.new) (H.media host.new) (H.extent host.new) (H.Disk.faults host.new) (K.holds report.new) (K.faults report.new)) }
+    ensures counts { FailsOnly result (H.Disk.faults host.old) (H.Disk.faults host.new) }
     ensures hosted { has_hosted result ≡ true }
     ensures leads { H.leads host.old host.new }
 {
@@ -171,6 +175,8 @@ fn serve<H: Host, K: Sink>(server: Server, host: &mut H, report: &mut K) -> Endi
     ensures any { (how : Stop) × (state : State) × (list_all (is_own server.settings) state.history ≡ true)
         × ((before now : Outside) → Counts before (K.holds report.old) (K.faults report.old) (H.Wire.faults host.old) (H.Disk.faults host.old)
         → Counts now (K.holds report.new) (K.faults report.new) (H.Wire.faults host.new) (H.Disk.faults host.new) → Wrote result how server.settings state before now) }
+    ensures counts { FailsOnly result (H.Disk.faults host.old) (H.Disk.faults host.new) }
+    ensures sized { EndsSized result }
     ensures hosted { has_hosted result ≡ true }
     ensures leads { H.leads host.old host.new }
 {

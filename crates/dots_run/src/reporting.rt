@@ -2,9 +2,9 @@
 
 ghost use Rattle.std.specs.Prelude.{◌≡◌, ◌⊎◌, false, Result, Ok, IfSome};
 ghost use Rattle.dots_host.specs.Causes.{Rose};
-ghost use Rattle.file_checks.specs.declared.checked.Checked.{Checked};
-ghost use Rattle.file_checks.specs.declared.checked.Checked.TheVariants as checked;
-ghost use Rattle.file_checks.specs.declared.checked.Unchecked.{Unchecked};
+ghost use Rattle.dots_script.specs.declared.checked.Checked.{Checked};
+ghost use Rattle.dots_script.specs.declared.checked.Checked.TheVariants as checked;
+ghost use Rattle.dots_script.specs.declared.checked.Unchecked.{Unchecked};
 ghost use Rattle.dots_run.specs.Load.{FindsLoad};
 ghost use Rattle.dots_run.specs.declared.topic_outcome.TopicOutcome.TheVariants as outcomes;
 ghost use Rattle.dots_run.specs.Reporting.{has_source, Reports, ReportsTopic, IsSound, IsAtFault};
@@ -14,7 +14,7 @@ use crate::topic::Topic;
 use crate::topic_outcome::TopicOutcome;
 use crate::wording::{usage, version};
 use dots_host::{Sink, Source, write_all};
-use file_checks::{Checked, Unchecked, check_script, check_settings};
+use dots_script::{Checked, Unchecked, check_script, check_settings};
 use std::alloc::Global;
 
 /// Writes to the report what is to be told of the topic: for settings and scripts what the source's bytes come to, or their

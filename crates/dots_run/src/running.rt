@@ -9,13 +9,13 @@ ghost use Rattle.dots_machine.specs.Outside.{outside};
 ghost use Rattle.dots_run.specs.declared.topic.Topic as topics;
 ghost use Rattle.dots_run.specs.declared.topic_outcome.TopicOutcome as tolds;
 ghost use Rattle.dots_run.specs.Reporting.{outcome_status, ReportsTopic, IsSound, IsAtFault};
+ghost use Rattle.dots_run.specs.Outcomes.{IsTooSmall};
 ghost use Rattle.dots_run.specs.Topics.{is_check, is_check_script, topic_of, is_known};
 
 use crate::outcome::run_machine;
 use crate::reporting::report_topic;
 use crate::topics::topic_of;
-use dots_disk::Host;
-use dots_host::{Sink, Source};
+use dots_host::{Host, Sink, Source};
 use std::alloc::Global;
 
 /// Does all that the program does, and answers its exit status.
@@ -56,8 +56,10 @@ pub fn run<H: Host, S: Source, K: Sink>(
         → is_check_script (map string_bytes words.now) ≡ false → settings.new ≡ settings.old }
     ensures unserved { is_served (map string_bytes words.now) ≡ false → host.new ≡ host.old }
     ensures uncalled { 1 ≤ result → result ≤ 3 → host.new ≡ host.old }
-    // When there must have been a failure of the disk.
+    // When there must have been a failure of the disk, and when there was none; and when the disk is too small, whatever it tells of its content.
     ensures disk { result ≡ 6 → Rose (H.Disk.faults host.old) (H.Disk.faults host.new) }
+    ensures unfailed { result ≢ 6 → H.Disk.faults host.new ≡ H.Disk.faults host.old }
+    ensures small { result ≡ 10 → IsTooSmall (S.left settings.old) (H.extent host.old) }
     // When the settings are refused, and when a run must go well, want of memory and 2^40 events without End aside: where the disk holds what a
     // server leaves there.
     ensures refused { is_served (map string_bytes words.now) ≡ true → GivesFault (S.left settings.old)

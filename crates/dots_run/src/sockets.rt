@@ -12,7 +12,7 @@ use crate::words::names_of;
 use dots_edge::FileSocketHost;
 use dots_host::{Sink, Source, StdSink, StdSource};
 use dots_lists::NoMemory;
-use file_checks::{Unchecked, read_front};
+use dots_script::{Unchecked, read_front};
 use std::alloc::Global;
 use std::fs::{File, Files};
 use std::io::{Read, Write};

@@ -5,7 +5,7 @@ ghost use Rattle.dots_run.specs.Topics.{is_check, is_alone, is_check_script, is_
 
 use crate::topic::Topic;
 use crate::words::is_word;
-use plain_text::number_in;
+use dots_lists::number_in;
 
 /// The topic that the words ask for: `check SETTINGS`, `check-script`, `help` and `version` have one, and
 /// `--help` and `--version` have that of `help` and `version`. So has `load N`, where N is a number of 1 to 1,000 without leading zeros.

@@ -1,6 +1,6 @@
 -- A host of a script before any call.
 use Rattle.std.proofs.Common.{◌≡◌, ℕ, ◌^◌, List, [], ap, ◌∙◌}
-use Rattle.dots_disk.specs.Logged.{Logged, zeros}
+use Rattle.dots_host.specs.Logged.{Logged, zeros}
 use Rattle.dots_script.specs.Scripting.{Scripting}
 
 abbrev host : {S K : Type 0} → S → K → List ℕ → Logged → Scripting S K

@@ -4,11 +4,11 @@ use Rattle.std.proofs.lemmas.Fmt.{decimal_injective}
 use Rattle.std.proofs.lemmas.List.{append_cancel_left}
 use Rattle.std.specs.Char.{digit_value}
 use Rattle.std.specs.Str.Parse.{AllDigits}
-use Rattle.plain_text.proofs.Decimals.{IsDecimal-decimal}
+use Rattle.dots_lists.proofs.Decimals.{IsDecimal-decimal}
 use Rattle.dots_host.specs.declared.event.Event.{Event}
 use Rattle.dots_host.specs.declared.event.Event.TheVariants as event
 use Rattle.dots_script.specs.Script.{IsNumberAndBytes, AreTwoNumbers, IsNumber, BeginsWith, SaysEvent, IsEventLine, IsSkipped}
-use Rattle.plain_text.specs.HexText.{IsHex}
+use Rattle.dots_lists.specs.HexText.{IsHex}
 use Rattle.dots_script.specs.Words.{HasNoSpace, IsAfterNumber}
 use Rattle.dots_script.proofs.Splits.{one_split}
 use Rattle.hex.specs.Hex.{decode_of}

@@ -1,3 +1,6 @@
+pub mod Wholes
+pub mod Passing
+pub mod Counting
 pub mod Known
 pub mod HexPieces
 pub mod Splits

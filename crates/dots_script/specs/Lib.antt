@@ -1,3 +1,9 @@
+pub mod Quoting
+pub mod Reason
+pub mod Remarks
+pub mod ScriptRemarks
+pub mod Summary
+pub mod Checks
 pub mod Script
 pub mod Words
 pub mod Lines

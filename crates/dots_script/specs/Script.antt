@@ -1,6 +1,6 @@
 -- Script lines: what comes to a server, one event a line, each line ended by a line feed.
 use Rattle.std.specs.Prelude.{◌≡◌, ℕ, ◌^◌, ◌<◌, List, [], ◌∷◌, ◌++◌, codes, decimal}
-use Rattle.plain_text.specs.HexText.{IsHex}
+use Rattle.dots_lists.specs.HexText.{IsHex}
 use Rattle.dots_host.specs.declared.event.Event.{Event}
 use Rattle.dots_host.specs.declared.event.Event.TheVariants as event
 

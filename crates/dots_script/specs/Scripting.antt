@@ -1,6 +1,6 @@
 -- What contracts see of the host of a script.
 use Rattle.std.specs.Prelude.{◌≡◌, ℕ, List}
-use Rattle.dots_disk.specs.Logged.{Logged, AddsCalls}
+use Rattle.dots_host.specs.Logged.{Logged, AddsCalls}
 
 -- its source, the bytes that were read ahead of the events, its sink, its disk with the calls of the host so far, and how often its wire failed
 pub record Scripting (S K : Type 0) : Type 0 where

@@ -1,7 +1,7 @@
 -- Calls of the disk of a host of a script go on from none, and one after the other, and keep what its wire has read and written.
 use Rattle.std.proofs.Common.{◌≡◌, ℕ, List, Option, refl, sym, ap, subst, ◌∙◌}
 use Rattle.dots_host.specs.Acts.{wire_acts}
-use Rattle.dots_disk.specs.LoggedLaws.{adds_calls_same, adds_calls_then, keeps_acts_logged}
+use Rattle.dots_host.specs.LoggedLaws.{adds_calls_same, adds_calls_then, keeps_acts_logged}
 use Rattle.dots_script.specs.Lines.{to_come}
 use Rattle.dots_script.specs.Scripting.{Scripting, KeepsScript}
 use Rattle.dots_script.specs.Accounts.{Outer, Accounts, AccountsSince, outer}

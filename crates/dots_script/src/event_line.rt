@@ -6,7 +6,7 @@ ghost use Rattle.dots_script.specs.Script.{IsNumberAndBytes, IsNumber, SaysEvent
 ghost use Rattle.dots_script.specs.Words.{HasNoSpace, IsAfterNumber};
 
 use dots_host::{Got, MAX_EVENT_BYTES, What};
-use plain_text::{parse_decimal, read_hex};
+use dots_lists::{parse_decimal, read_hex};
 
 /// The event of a script line and the time beside it, the event's bytes at the front of the room. Where there is
 /// none, what then stands in the room isn't said.

@@ -4,10 +4,10 @@ ghost use Rattle.dots_host.specs.Causes.{Rose, HasCause};
 ghost use Rattle.dots_host.specs.Acts.{IsWithin, OnFailed, OnEvent, Adds, taken, given, event_of, owned_of};
 ghost use Rattle.dots_host.specs.Writing.{AppendsBeginning};
 ghost use Rattle.dots_host.specs.declared.TheConstants.{MAX_EVENT_BYTES};
-ghost use Rattle.dots_disk.specs.Media.{bytes_at, written, IsTorn, settled};
-ghost use Rattle.dots_disk.specs.Becoming.{Becomes, MayBecome, Stays};
-ghost use Rattle.dots_disk.specs.Logged.{zeros, media_since, acts_told, KeepsLogged};
-ghost use Rattle.dots_disk.specs.LoggedLaws.{keeps_logged_same, keeps_logged_then, one_moment_logged, keeps_acts_logged};
+ghost use Rattle.dots_host.specs.Media.{bytes_at, written, IsTorn, settled};
+ghost use Rattle.dots_host.specs.Becoming.{Becomes, MayBecome, Stays};
+ghost use Rattle.dots_host.specs.Logged.{zeros, media_since, acts_told, KeepsLogged};
+ghost use Rattle.dots_host.specs.LoggedLaws.{keeps_logged_same, keeps_logged_then, one_moment_logged, keeps_acts_logged};
 ghost use Rattle.dots_script.specs.Lines.{to_come, NextIs};
 ghost use Rattle.dots_script.specs.Sends.{line_of};
 ghost use Rattle.dots_script.specs.Accounts.{Outer, AccountsSince};
@@ -18,8 +18,10 @@ use crate::block::Block;
 use crate::event_line::parse_event;
 use crate::lines::{Found, find_unskipped};
 use crate::send_line::{SEND_ROOM, write_line};
-use dots_disk::{Disk, Host, LoggedDisk};
-use dots_host::{Failed, Got, MAX_EVENT_BYTES, NoMemory, Out, Sent, Sink, Source, What, Wire};
+use dots_host::{
+    Disk, Failed, Got, Host, LoggedDisk, MAX_EVENT_BYTES, NoMemory, Out, Sent, Sink, Source, What,
+    Wire,
+};
 use std::alloc::Global;
 use std::marker::Model;
 

@@ -10,9 +10,9 @@ use Rattle.dots_history.specs.declared.entry.Entry.{Entry}
 use Rattle.dots_history.specs.declared.change.Change.TheVariants as change
 use Rattle.dots_history.specs.Bounds.{asked_within}
 use Rattle.dots_history.specs.Histories.{mitigations}
-use Rattle.dots_laws.specs.Calm.{may_act, is_client_of, is_own}
-use Rattle.dots_laws.specs.Fits.{has_one_peer}
-use Rattle.dots_laws.specs.Tables.{Client}
+use Rattle.dots_history.specs.Calm.{may_act, is_client_of, is_own}
+use Rattle.dots_history.specs.Fits.{has_one_peer}
+use Rattle.dots_history.specs.Tables.{Client}
 use Rattle.dots_keys.specs.Askable.{AreFew}
 use Rattle.conflict_rules.specs.declared.judging.Judged.{Judged}
 use Rattle.dots_registry.specs.RegistryValues.{time_of}
@@ -24,7 +24,7 @@ use Rattle.dots_registry.proofs.FittingEntries.{fits_granted, fits_withdrawal}
 use Rattle.dots_registry.proofs.OnePeer.{free_is_one_peer, granted_is_free}
 use Rattle.dots_machine.specs.declared.client_request.ClientRequest.{ClientRequest}
 use Rattle.dots_machine.specs.declared.mitigation_request.MitigationRequest.{MitigationRequest}
-use Rattle.target_rules.specs.Targets.{scope_fault}
+use Rattle.conflict_rules.specs.AskableTargets.{scope_fault}
 use Rattle.dots_machine.specs.Mitigations.{request_of, client_for, entry_of, is_taken}
 use Rattle.dots_machine.specs.Machine.{State, facts_in}
 use Rattle.dots_server.specs.ServerValues.{ServerValue, Represents, IsAcceptable}

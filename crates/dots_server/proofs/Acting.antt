@@ -4,7 +4,7 @@ use Rattle.std.proofs.lemmas.Bool.{and_from}
 use Rattle.std.proofs.lemmas.Bool.Decides.{nat_tests}
 use Rattle.dots_settings.specs.Settings.{SettingsValue}
 use Rattle.dots_settings.specs.Lookups.{role_of}
-use Rattle.dots_laws.specs.Calm.{may_act}
+use Rattle.dots_history.specs.Calm.{may_act}
 use Rattle.dots_server.specs.Asking.{role_with, IsOwn, domain_asked}
 
 some_same : (a b : ℕ) → Some a ≡ Some b → a ≡ b

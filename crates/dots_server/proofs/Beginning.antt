@@ -3,8 +3,8 @@ use Rattle.std.proofs.Common.{◌≡◌, ℕ, ◌<◌, ◌≤◌, ◌^◌, true,
 use Rattle.std.specs.Prelude.{flat_map}
 use Rattle.std.specs.List.{list_all, AllByRecursion}
 use Rattle.std.proofs.lemmas.Bool.{and_from}
-use Rattle.dots_disk.specs.Media.{Media}
-use Rattle.dots_disk.specs.Becoming.{Leaves, RestsWith}
+use Rattle.dots_host.specs.Media.{Media}
+use Rattle.dots_host.specs.Becoming.{Leaves, RestsWith}
 use Rattle.slot_store.specs.Gates.{Sees}
 use Rattle.slot_store.specs.Opening.{Is}
 use Rattle.dots_settings.specs.declared.limits.Limits.{Limits}
@@ -12,24 +12,26 @@ use Rattle.dots_settings.specs.Settings.{SettingsValue}
 use Rattle.dots_history.specs.declared.entry.Entry.{Entry}
 use Rattle.dots_history.specs.Bounds.{within_bounds}
 use Rattle.dots_history.specs.Histories.{Within, Kept, View, last}
-use Rattle.dots_laws.specs.Fits.{last_or, last_time}
-use Rattle.dots_laws.proofs.Composing.{kept_refl, kept_later}
+use Rattle.dots_history.specs.Fits.{last_or, last_time}
+use Rattle.dots_history.proofs.Composing.{kept_refl, kept_later}
 use Rattle.dots_registry.specs.RegistryValues.{time_of, number_remembered}
 use Rattle.slot_store.specs.Layout.{needed_of}
 use Rattle.slot_store.specs.StoreValues.{JournalValue}
 use Rattle.slot_journal.specs.declared.fault.JournalFault.{JournalFault}
+use Rattle.slot_journal.specs.declared.fault.JournalFault.TheVariants as faults
 use Rattle.slot_journal.specs.Sizes.{slots_of}
 use Rattle.slot_journal.specs.DiskEntries.{HasRecord, HasEntries}
 use Rattle.slot_journal.specs.DiskEntries as journal
 use Rattle.slot_journal.proofs.Crashing.{one_history, represents_has}
 use Rattle.slot_journal.specs.Untaken.{RefusesLedger, IsFailure}
-use Rattle.dots_ledger.specs.LedgerValues.{LedgerValue}
-use Rattle.dots_ledger.specs.LedgerValues as ledger
-use Rattle.dots_ledger.proofs.Recovering.{fails_alone}
-use Rattle.dots_ledger.proofs.Wholes.{ledger_whole}
+use Rattle.slot_journal.specs.Refused.{IsNoSize, IsSmallBy}
+use Rattle.dots_registry.specs.LedgerValues.{LedgerValue}
+use Rattle.dots_registry.specs.LedgerValues as ledger
+use Rattle.dots_registry.proofs.Recovering.{fails_alone}
+use Rattle.dots_registry.proofs.Wholes.{ledger_whole}
 use Rattle.dots_registry.specs.Limits.{ClientsKeepLimits}
 use Rattle.dots_registry.proofs.CalmLimits.{limits_calm, limits_whole, own_calm, early_calm}
-use Rattle.dots_notices.specs.declared.watch.Watch.{Watch}
+use Rattle.session_core.specs.declared.watch.Watch.{Watch}
 use Rattle.coap_observe.specs.DueAmong.{AreNotified}
 use Rattle.coap_observe.specs.Observing.{ObserversValue}
 use Rattle.dots_registry.specs.ObserverViews.{views_of}
@@ -173,6 +175,20 @@ pub same_found : (settings : SettingsValue) (media : Option Media) (value : Jour
 same_found settings media value entries found rests found_there =
     let (seen, sees, is, represents) = seen_of media (journal.Represents value settings entries) rests in
     one_history settings seen found entries (found_there seen sees) (represents_has value settings entries seen represents)
+
+-- a disk of the size that a server needs isn't too small for its settings
+pub restart_sized : (given : SettingsValue) (server : ServerValue) (extent : ℕ) (fault : JournalFault) → given ≡ server.settings → server.journal.slots ≡ slots_of server.settings
+    → IsSmallBy given extent fault → needed_of server.journal.slots ≤ extent → IsNoSize fault
+restart_sized given server extent (faults.TooSmall needed found) same slots small large =
+    let enough = subst (λ n. needed_of n ≤ extent) (slots ∙ ap slots_of (sym same)) large in
+    let all = small.0 in
+    let is = small.1 in
+    let less = small.2 in
+    absurd (omega (arith, enough, all, is, less))
+restart_sized given server extent (faults.NotOurs at) same slots small large = tt
+restart_sized given server extent (faults.SettingsChanged stored was) same slots small large = tt
+restart_sized given server extent faults.DiskFault same slots small large = tt
+restart_sized given server extent faults.NoMemory same slots small large = tt
 
 -- ---- a restart finds what was left, under the settings that the server had
 

@@ -4,11 +4,11 @@ use Rattle.std.specs.List.{list_all}
 use Rattle.dots_host.specs.declared.out.OwnedOut.{OwnedOut}
 use Rattle.dots_host.specs.Acts.{Timed}
 use Rattle.dots_host.specs.Runs.{Turn, Chain}
-use Rattle.dots_disk.specs.Media.{Media}
+use Rattle.dots_host.specs.Media.{Media}
 use Rattle.slot_store.proofs.Steps.{leaves_as}
 use Rattle.dots_settings.specs.Settings.{SettingsValue}
 use Rattle.dots_history.specs.declared.entry.Entry.{Entry}
-use Rattle.dots_laws.specs.Calm.{is_own}
+use Rattle.dots_history.specs.Calm.{is_own}
 use Rattle.slot_store.specs.StoreValues.{JournalValue}
 use Rattle.slot_journal.specs.Kept.{HasKept}
 use Rattle.rest_answers.specs.Turns.{entries_of}

@@ -6,23 +6,23 @@ use Rattle.dots_host.specs.declared.out.OwnedOut.TheVariants as owned
 use Rattle.dots_host.specs.Acts.{Timed}
 use Rattle.dots_host.specs.Runs.{Turn, owed_in, each_telling, Added, Gives}
 use Rattle.dots_host.proofs.RunLemmas.{added_weaker}
-use Rattle.dots_disk.specs.Media.{Media}
-use Rattle.dots_disk.specs.Becoming.{KeepsMedia, IsMoment}
+use Rattle.dots_host.specs.Media.{Media}
+use Rattle.dots_host.specs.Becoming.{KeepsMedia, IsMoment}
 use Rattle.dots_settings.specs.Settings.{SettingsValue}
 use Rattle.dots_history.specs.declared.entry.Entry.{Entry}
 use Rattle.slot_store.specs.StoreValues.{JournalValue}
 use Rattle.slot_journal.specs.DiskEntries as journal
-use Rattle.dots_notices.specs.Notifying.{SentTo}
-use Rattle.dots_notices.specs.Beats.{beats}
+use Rattle.session_core.specs.Notifying.{SentTo}
+use Rattle.session_core.specs.Beats.{beats}
 use Rattle.dots_machine.specs.Verdict.{Verdict}
 use Rattle.dots_machine.specs.declared.verdict.Verdict.TheVariants as verdict
 use Rattle.dots_machine.specs.Signals.{back_of}
 use Rattle.dots_machine.specs.Machine.{State, later, after, with_entry, lapsed, beating, Hears, Notified}
 use Rattle.dots_machine.proofs.Fronts.{owed_then}
 use Rattle.dots_machine.proofs.Hearing.{answer_time, hears_time}
-use Rattle.dots_machine.proofs.Observing.{told_history, told_time}
+use Rattle.dots_machine.proofs.Observing.{notified_history, notified_time}
 use Rattle.dots_server.specs.ServerValues.{ServerValue, IsKept}
-use Rattle.dots_server.specs.Sessions.{met, beaten}
+use Rattle.dots_server.specs.HearingPeers.{met, beaten}
 use Rattle.dots_server.specs.Turning.{Turned, Wrote, Broke, Stored, LiesOn, IsStored, Grows, last_left, Chained}
 use Rattle.dots_server.specs.Taking.{stored_of, Took, BrokeOff, Answered, Failing, DatagramTaken, DatagramBroke}
 use Rattle.dots_server.specs.Signals.{HasLapsed, LapseBroke}
@@ -209,10 +209,10 @@ module _ (settings : SettingsValue) (at : ℕ) (state : State) (old moved : Serv
     final = record { sends = sends; left = left }
 
     time_is : left.time ≡ now.time
-    time_is = told_time settings (lapsed settings now) new notices notified
+    time_is = notified_time settings (lapsed settings now) new notices notified
 
     history_is : left.history ≡ (last_left state l.steps).history
-    history_is = told_history settings (lapsed settings now) new notices notified ∙ l.left ∙ last_from now state l.steps refl
+    history_is = notified_history settings (lapsed settings now) new notices notified ∙ l.left ∙ last_from now state l.steps refl
 
     final_turn : Turned settings (last_left state l.steps) left sends (LiesOn settings (stored_of taken l.few)) (LiesOn settings (stored_of next l.few)) there media_new told acts_new
     final_turn =
@@ -230,7 +230,7 @@ module _ (settings : SettingsValue) (at : ℕ) (state : State) (old moved : Serv
       step = (
         sends,
         owed_then l.steps (final ∷ []) ∙ ap (λ owed. owed ++ owed_in (final ∷ [])) l.silent ∙ append-nil (each_telling left sends),
-        record { notices = notices; told = new; notified = notified; heartbeats = beats (beating settings new) new.time new.contacts; beaten = (refl, refl); sends_are = refl },
+        record { notices = notices; between = new; notified = notified; heartbeats = beats (beating settings new) new.time new.contacts; beaten = (refl, refl); sends_are = refl },
       );
       kept = kept;
       chained = subst (λ t. Chained settings t state (stored_of old entries) (l.steps ++ final ∷ []) (stored_of next l.few) media media_new acts acts_new) (sym time_is)

@@ -6,8 +6,8 @@ use Rattle.dots_host.specs.declared.out.OwnedOut.TheVariants as owned
 use Rattle.dots_host.specs.Acts.{Timed}
 use Rattle.dots_host.specs.Runs.{Added, Gives}
 use Rattle.dots_host.proofs.RunLemmas.{added_weaker}
-use Rattle.dots_disk.specs.Media.{Media}
-use Rattle.dots_disk.specs.Becoming.{KeepsMedia, IsMoment}
+use Rattle.dots_host.specs.Media.{Media}
+use Rattle.dots_host.specs.Becoming.{KeepsMedia, IsMoment}
 use Rattle.dots_settings.specs.Settings.{SettingsValue}
 use Rattle.dots_history.specs.declared.entry.Entry.{Entry}
 use Rattle.slot_store.specs.StoreValues.{JournalValue}
@@ -23,14 +23,14 @@ use Rattle.rest_answers.specs.Answer.{RestAnswer}
 use Rattle.rest_answers.specs.Replies.{refusal}
 use Rattle.rest_answers.specs.Turns.{RestFront, is_waiting, reply_in, closing, sends_of, entries_in, entries_of, lines_behind, HttpTurn, with_piece}
 use Rattle.rest_answers.proofs.Turning.{turn_stays}
-use Rattle.dots_notices.specs.Notifying.{SentTo}
+use Rattle.session_core.specs.Notifying.{SentTo}
 use Rattle.dots_machine.specs.Machine.{State, AnswersFront, receiving}
 use Rattle.dots_server.specs.ServerValues.{ServerValue, IsKept}
 use Rattle.dots_server.specs.Turning.{Turned, TurnedTo, Broke}
 use Rattle.dots_server.specs.Pieces.{StandsThere, having, IsAcceptedBy, FrontAnswered, FrontRests, IsFrontTaken, FrontBroke, PieceAnswered, IsPieceTaken}
 use Rattle.dots_server.proofs.Rows.{apart_buffering, buffering_nowhere, pieces_joined, held_all}
 use Rattle.dots_server.proofs.Connecting.{lines_kept}
-use Rattle.dots_server.proofs.Turning.{unwritten, told_behind, turned_from}
+use Rattle.dots_server.proofs.Turning.{unwritten, notices_behind, turned_from}
 use Rattle.dots_server.proofs.Chaining.{broke_as}
 
 -- ---- the state with the entry of an answer
@@ -126,7 +126,7 @@ module _ (settings : SettingsValue) (conn : ℕ) (place : LinePlace) (old : Serv
       turned = subst
           (λ (j : JournalValue). Turned settings state answered_so sent_so (journal.Represents old.journal settings entries) (journal.Represents j settings few) media media_new acts acts_new)
           (sym (ap (λ (server : ServerValue). server.journal) is))
-          (told_behind settings state (having answered state) answered_so (owned.Conn conn (reply_in answered) ∷ []) (closing conn close) (journal.Represents old.journal settings entries)
+          (notices_behind settings state (having answered state) answered_so (owned.Conn conn (reply_in answered) ∷ []) (closing conn close) (journal.Represents old.journal settings entries)
           (journal.Represents said.journal settings few) media there media_new moment last acts told acts_new turned refl refl sent keeps);
     }
 

@@ -7,9 +7,9 @@ use Rattle.acl_lists.specs.declared.asked.Asked.{Asked}
 use Rattle.dots_settings.specs.Settings.{SettingsValue}
 use Rattle.dots_settings.specs.Lookups.{addresses_of}
 use Rattle.dots_history.specs.Histories.{or_else}
-use Rattle.dots_laws.specs.Calm.{all_inside, name_inside}
-use Rattle.target_rules.specs.declared.target.TargetFault.TheVariants.{NotATarget, OutsideDomain}
-use Rattle.target_rules.specs.Targets.{is_target, prefix_fault, first_fault, fault_of_addresses, name_fault, scope_fault}
+use Rattle.dots_history.specs.Calm.{all_inside, name_inside}
+use Rattle.conflict_rules.specs.declared.target.TargetFault.TheVariants.{NotATarget, OutsideDomain}
+use Rattle.conflict_rules.specs.AskableTargets.{is_target, prefix_fault, first_fault, fault_of_addresses, name_fault, scope_fault}
 
 or_else_none : {A : Type 0} → (a b : Option A) → or_else a b ≡ None → (a ≡ None) × (b ≡ None)
 or_else_none (Some x) b is = absurd (cc is)

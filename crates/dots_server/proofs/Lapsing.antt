@@ -6,8 +6,8 @@ use Rattle.std.proofs.lemmas.Bool.{and_from}
 use Rattle.std.proofs.lemmas.List.Folds.{list_all-append}
 use Rattle.dots_host.specs.Acts.{Timed}
 use Rattle.dots_host.specs.Runs.{Turn, owed_in}
-use Rattle.dots_disk.specs.Media.{Media}
-use Rattle.dots_disk.specs.Becoming.{IsMoment}
+use Rattle.dots_host.specs.Media.{Media}
+use Rattle.dots_host.specs.Becoming.{IsMoment}
 use Rattle.dots_settings.specs.declared.peer.Role.{Role}
 use Rattle.dots_settings.specs.declared.peer.Role.TheVariants as role
 use Rattle.dots_settings.specs.Settings.{SettingsValue, IsSettings}
@@ -15,11 +15,11 @@ use Rattle.dots_settings.specs.Lookups.{role_of}
 use Rattle.dots_history.specs.declared.entry.Entry.{Entry}
 use Rattle.dots_history.specs.declared.change.Change.TheVariants as change
 use Rattle.dots_history.specs.declared.entry.MessageKey.TheVariants as key
-use Rattle.dots_laws.specs.Calm.{is_own}
+use Rattle.dots_history.specs.Calm.{is_own}
 use Rattle.session_core.specs.declared.contact.PeerContact.{PeerContact}
 use Rattle.session_core.specs.Places.{with_place}
 use Rattle.slot_journal.specs.DiskEntries as journal
-use Rattle.dots_machine.specs.Sessions.{beating_at}
+use Rattle.dots_machine.specs.ConfiguredPeers.{beating_at}
 use Rattle.dots_machine.specs.Signals.{domain_of_client, own_domain, LastHeard, last_heard, is_silent, is_watched_in, loss_in, loss_of, row_lapsed, history_lapsed, rows_lapsed}
 use Rattle.dots_machine.specs.Machine.{State, lapsed}
 use Rattle.dots_server.specs.ServerValues.{ServerValue, IsKept}

@@ -1,3 +1,5 @@
+pub mod Bodies
+pub mod ReplyReceived
 pub mod CommaTexts
 pub mod Puts
 pub mod ReportTexts
@@ -16,14 +18,14 @@ pub mod Reports
 pub mod Insides
 pub mod MitigationReplies
 pub mod Verdicts
-pub mod Sessions
+pub mod HearingPeers
 pub mod Watching
 pub mod Notifying
 pub mod Rows
 pub mod Connecting
 mod Chaining
 mod Fronts
-mod Standing
+mod FrontsInUse
 mod TakingPieces
 mod LostSignals
 mod Lapsing

@@ -2,7 +2,7 @@
 use Rattle.std.proofs.Common.{◌≤◌, List, arith}
 use Rattle.dots_settings.specs.Settings.{SettingsValue}
 use Rattle.dots_history.specs.declared.entry.Entry.{Entry}
-use Rattle.dots_laws.specs.Fits.{last_time}
+use Rattle.dots_history.specs.Fits.{last_time}
 use Rattle.dots_registry.specs.RegistryValues.{time_of}
 use Rattle.dots_machine.specs.Machine.{State}
 use Rattle.dots_machine.proofs.Surviving.{within_last}

@@ -18,13 +18,13 @@ use Rattle.dots_history.specs.Entries.{same_client, is_configuration, is_loss, i
 use Rattle.dots_history.specs.Histories.{Mitigation, live, status, is_nil, mitigations, held, alone}
 use Rattle.dots_history.specs.Rows.{waits, works, triggers, loses}
 use Rattle.dots_history.specs.Rows as rows
-use Rattle.dots_laws.specs.Calm.{may_act, is_client_of, change_inside, acts_rightly, loses_rightly, waits_rightly, is_of_settings, came_rightly, is_own}
-use Rattle.dots_laws.specs.Held.{is_lost_of}
-use Rattle.dots_laws.specs.HistoryReading.{is_mitigated, is_waiting}
-use Rattle.dots_laws.specs.Views.{mitigations_of}
-use Rattle.dots_laws.proofs.Apart.{apart}
-use Rattle.dots_laws.proofs.Isolating.{lost_alone}
-use Rattle.dots_laws.proofs.Touching.{never_live}
+use Rattle.dots_history.specs.Calm.{may_act, is_client_of, change_inside, acts_rightly, loses_rightly, waits_rightly, is_of_settings, came_rightly, is_own}
+use Rattle.dots_history.specs.Held.{is_lost_of}
+use Rattle.dots_history.specs.HistoryReading.{is_mitigated, is_waiting}
+use Rattle.dots_history.specs.Views.{mitigations_of}
+use Rattle.dots_history.proofs.Apart.{apart}
+use Rattle.dots_history.proofs.Isolating.{lost_alone}
+use Rattle.dots_history.proofs.Touching.{never_live}
 use Rattle.dots_registry.proofs.Lists.{held_pass}
 use Rattle.dots_registry.proofs.Inside.{configures, acts, acts_of, own_loss}
 use Rattle.dots_registry.proofs.Bounded.{bounded_loss}
@@ -32,10 +32,10 @@ use Rattle.dots_registry.proofs.FittingEntries.{fits_loss}
 use Rattle.dots_registry.specs.RegistryValues.{time_of}
 use Rattle.dots_registry.specs.Limits.{ClientsKeepLimits}
 use Rattle.installed_filters.specs.Filters.{needs_rows}
-use Rattle.dots_laws.specs.Fits.{is_of_mitigations}
+use Rattle.dots_history.specs.Fits.{is_of_mitigations}
 use Rattle.dots_machine.specs.Machine.{State}
 use Rattle.dots_server.specs.ServerValues.{ServerValue, Represents, IsAcceptable}
-use Rattle.dots_machine.specs.Sessions.{entries_for}
+use Rattle.dots_machine.specs.ConfiguredPeers.{entries_for}
 use Rattle.dots_machine.specs.Signals.{domain_of_client, own_domain, signal_entry, is_lost_in, is_watched_in, is_watched, watched_by, loss_in, back_in, back_of}
 use Rattle.dots_server.specs.Signals.{passing, watched_domain, lost_domain, signals}
 

@@ -1,7 +1,7 @@
 -- What is kept of a signal, or that nothing is.
 use Rattle.std.proofs.Common.{◌≡◌, ◌≢◌, inl, inr, ℕ, Bool, true, false, List, [], ◌∷◌, ◌++◌, length, Option, Some, None, sym, ap, ◌∙◌, subst, arith, append-nil, length-append}
 use Rattle.dots_host.specs.Acts.{Timed}
-use Rattle.dots_disk.specs.Media.{Media}
+use Rattle.dots_host.specs.Media.{Media}
 use Rattle.slot_store.proofs.Steps.{leaves_as}
 use Rattle.dots_settings.specs.Settings.{SettingsValue}
 use Rattle.dots_history.specs.declared.entry.Entry.{Entry}
@@ -13,7 +13,7 @@ use Rattle.slot_journal.specs.Kept.{HasKept}
 use Rattle.dots_machine.specs.Signals.{signal_entry}
 use Rattle.dots_machine.specs.Machine.{State, with_entry}
 use Rattle.dots_server.specs.ServerValues.{ServerValue, IsKept}
-use Rattle.dots_server.specs.Sessions.{as_heard, met}
+use Rattle.dots_server.specs.HearingPeers.{as_heard, met}
 use Rattle.dots_server.specs.Signals.{returned, signals}
 use Rattle.dots_server.specs.Turning.{HasTurn, Wrote, Broke}
 use Rattle.dots_server.proofs.Turning.{unwritten_wrote, broke_from}

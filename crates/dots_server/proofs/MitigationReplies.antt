@@ -2,11 +2,11 @@
 use Rattle.std.proofs.Common.{◌≡◌, ◌≢◌, ℕ, Bool, true, false, List, [], ◌∷◌, ◌++◌, map, filter, cond, Option, refl, sym, ap, ◌∙◌, append_assoc}
 use Rattle.cbor_profile.specs.Canon.{canon}
 use Rattle.cbor_profile.specs.Tree.{Tree}
-use Rattle.dots_heads.specs.declared.request.Content.{Content}
+use Rattle.dots_keys.specs.declared.head_request.Content.{Content}
 use Rattle.conflict_rules.specs.LiveViews.{LiveView}
 use Rattle.reply_bodies.specs.declared.scope.MitigationView.{MitigationView}
 use Rattle.reply_bodies.specs.Mitigations.{scope_of, mitigations_with}
-use Rattle.coap_replies.specs.declared.exchange.Exchange.{Exchange}
+use Rattle.dots_keys.specs.declared.exchange.Exchange.{Exchange}
 use Rattle.dots_machine.specs.declared.verdict.Verdict.TheVariants as verdict
 use Rattle.dots_machine.specs.Replies.{mitigation_fields, absent}
 use Rattle.dots_machine.specs.Mitigations.{is_wanted, get_reply}
@@ -28,14 +28,14 @@ module _ (content : Content) (wanted : Option ℕ) where
       ap (λ ms. old ++ trees_of_rows ms) is ∙ ap (λ ts. old ++ ts) (one_and_others row rest) ∙ sym (append_assoc old (trees_of_rows (row ∷ [])) (trees_of_rows rest)) ∙ ap (λ ts. ts ++ trees_of_rows rest) (sym pushed)
 
 -- what is told of those that there are, and where there is none
-pub tells_some : (x : Exchange) (content : Content) (ms : List LiveView) (views : List MitigationView) → map scope_of views ≡ map (mitigation_fields content) ms → views ≢ []
+pub retrieves_some : (x : Exchange) (content : Content) (ms : List LiveView) (views : List MitigationView) → map scope_of views ≡ map (mitigation_fields content) ms → views ≢ []
     → verdict.Retrieves x (canon (mitigations_with (map scope_of views))) ≡ get_reply x content ms
-tells_some x content [] [] are some = absurd (some refl)
-tells_some x content [] (v ∷ vs) are some = absurd (cc are)
-tells_some x content (m ∷ ms) views are some = ap (λ scopes. verdict.Retrieves x (canon (mitigations_with scopes))) are
+retrieves_some x content [] [] are some = absurd (some refl)
+retrieves_some x content [] (v ∷ vs) are some = absurd (cc are)
+retrieves_some x content (m ∷ ms) views are some = ap (λ scopes. verdict.Retrieves x (canon (mitigations_with scopes))) are
 
-pub tells_none : (x : Exchange) (content : Content) (ms : List LiveView) (views : List MitigationView) → map scope_of views ≡ map (mitigation_fields content) ms → views ≡ []
+pub retrieves_none : (x : Exchange) (content : Content) (ms : List LiveView) (views : List MitigationView) → map scope_of views ≡ map (mitigation_fields content) ms → views ≡ []
     → verdict.Reply (absent x) ≡ get_reply x content ms
-tells_none x content [] views are none = refl
-tells_none x content (m ∷ ms) [] are none = absurd (cc are)
-tells_none x content (m ∷ ms) (v ∷ vs) are none = absurd (cc none)
+retrieves_none x content [] views are none = refl
+retrieves_none x content (m ∷ ms) [] are none = absurd (cc are)
+retrieves_none x content (m ∷ ms) (v ∷ vs) are none = absurd (cc none)

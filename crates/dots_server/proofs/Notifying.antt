@@ -10,9 +10,9 @@ use Rattle.coap_observe.specs.Observed.{ObservedValue, is_token, had_id}
 use Rattle.coap_observe.proofs.Notified.{registered_notified, filtered_notified, anybody_notified}
 use Rattle.coap_observe.specs.Observing.{ObserversValue}
 use Rattle.session_core.specs.declared.contact.PeerContact.{PeerContact}
-use Rattle.dots_notices.specs.declared.watch.Watch.{Watch}
-use Rattle.dots_notices.specs.Notifying.{Notifies, IsKnown}
-use Rattle.dots_notices.proofs.Ordering.{pass_all}
+use Rattle.session_core.specs.declared.watch.Watch.{Watch}
+use Rattle.session_core.specs.Notifying.{Notifies, IsKnown}
+use Rattle.session_core.proofs.Ordering.{pass_all}
 use Rattle.dots_settings.specs.Settings.{SettingsValue}
 use Rattle.dots_history.specs.declared.entry.Entry.{Entry}
 use Rattle.dots_registry.specs.ObserverViews.{views_of}

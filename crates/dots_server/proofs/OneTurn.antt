@@ -13,12 +13,12 @@ use Rattle.session_core.specs.Beating.{lost_in, is_lost, row_forgotten, row_watc
 use Rattle.session_core.specs.Places.{row_peer, with_place}
 use Rattle.session_core.specs.Spacing.{without_lost}
 use Rattle.session_core.proofs.Turns.{begun_peer}
-use Rattle.dots_machine.specs.Sessions.{beating_at}
+use Rattle.dots_machine.specs.ConfiguredPeers.{beating_at}
 use Rattle.dots_machine.specs.Signals.{own_domain, last_heard, heard_at, is_silent, is_watched, loss_in, loss_of, row_lapsed}
 use Rattle.dots_machine.specs.Machine.{State}
 use Rattle.dots_registry.specs.RegistryValues.{RegistryValue}
-use Rattle.dots_server.specs.Sessions.{SaysBeat}
-use Rattle.dots_server.proofs.Sessions.{agrees}
+use Rattle.dots_server.specs.HearingPeers.{SaysBeat}
+use Rattle.dots_server.proofs.HearingPeers.{agrees}
 use Rattle.dots_server.specs.ServerValues.{ServerValue, Represents, RepresentsWith, IsKept, IsServing}
 use Rattle.dots_server.specs.Signals.{passing, watched_domain, signals, loss_in_row, loss_at, with_turn}
 use Rattle.dots_server.proofs.LostSignals.{passing_all, passing_none, loss_found, watched_found}

@@ -1,25 +1,25 @@
 -- What is decided on what is received.
 use Rattle.std.proofs.Common.{◌≡◌, ℕ, Bool, true, false, List, [], ◌∷◌, Result, Ok, Err, inl, inr, refl, ap, ◌∙◌, subst}
 use Rattle.std.specs.Prelude.{IsOk}
-use Rattle.dots_heads.specs.declared.reject.Reject.{Reject}
+use Rattle.dots_keys.specs.declared.reject.Reject.{Reject}
 use Rattle.dots_keys.specs.declared.request.Request.{Request}
-use Rattle.dots_heads.specs.Heads.{Head, head_of}
+use Rattle.dots_keys.specs.Heads.{Head, head_of}
 use Rattle.dots_keys.specs.Meaning.{ReadsAs, Means}
 use Rattle.dots_settings.specs.Settings.{SettingsValue}
-use Rattle.coap_replies.specs.declared.exchange.Exchange.{Exchange}
-use Rattle.coap_replies.specs.declared.dismissal.Dismissal.{Dismissal}
+use Rattle.dots_keys.specs.declared.exchange.Exchange.{Exchange}
+use Rattle.dots_keys.specs.declared.dismissal.Dismissal.{Dismissal}
 use Rattle.dots_machine.specs.declared.received.Received.{Received}
 use Rattle.dots_machine.specs.declared.received.Received.TheVariants as received
 use Rattle.dots_machine.specs.Verdict.{Verdict}
 use Rattle.dots_machine.specs.declared.verdict.Verdict.TheVariants as verdict
 use Rattle.dots_settings.specs.Lookups.{role_of}
 use Rattle.dots_machine.specs.Domains.{is_gateway, is_stranger}
-use Rattle.coap_replies.specs.Exchanges.{exchange_in}
+use Rattle.dots_keys.specs.Exchanges.{exchange_in}
 use Rattle.dots_machine.specs.Requests.{received_as, IsReceived, unread, asks_nothing, meant}
 use Rattle.dots_machine.specs.Replies.{unavailable}
 use Rattle.dots_machine.specs.Machine.{State, Decides, by_silence, by_rules, for_want_of_memory}
 use Rattle.dots_machine.proofs.Verdicts.{ruled}
-use Rattle.dots_replies.specs.Receiving.{Lacks}
+use Rattle.dots_server.specs.Receiving.{Lacks}
 use Rattle.dots_host.specs.declared.out.OwnedOut.TheVariants as owned
 use Rattle.coap_observe.specs.Seen.{Lists}
 use Rattle.dots_machine.specs.declared.watching.Watching.{Watching}

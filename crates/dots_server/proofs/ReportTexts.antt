@@ -2,11 +2,11 @@
 use Rattle.std.proofs.Common.{◌≡◌, ℕ, ◌+◌, ◌<◌, zero, suc, Bool, true, false, cond, List, [], ◌∷◌, ◌++◌, length, take, get_or, filter, flat_map, codes, decimal, refl, sym, ap, ◌∙◌, arith, append_assoc, append-nil}
 use Rattle.ip_scope.specs.Prefix.{PrefixValue}
 use Rattle.ip_scope.specs.PrefixText.{prefix_text}
-use Rattle.filter_rows.specs.declared.rows.ScrubRow.{ScrubRow}
-use Rattle.filter_rows.specs.declared.rows.AclRow.{AclRow}
+use Rattle.acl_lists.specs.declared.rows.ScrubRow.{ScrubRow}
+use Rattle.acl_lists.specs.declared.rows.AclRow.{AclRow}
 use Rattle.acl_lists.specs.declared.ace.Ace.{Ace}
 use Rattle.acl_lists.specs.declared.packet.Packet.{Packet}
-use Rattle.filter_rows.specs.Fates.{Fate}
+use Rattle.acl_lists.specs.Fates.{Fate}
 use Rattle.dots_settings.specs.Settings.{SettingsValue}
 use Rattle.dots_settings.specs.Lookups.{name_of}
 use Rattle.dots_machine.specs.Report.{any_or, texts_of, ports_text, scrub_line, acl_line, verdict_text, asked_text, test_text, fate_text, packet_line, packet_lines}

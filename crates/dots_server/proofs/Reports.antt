@@ -1,9 +1,9 @@
 -- The report of a server is the machine's.
 use Rattle.std.proofs.Common.{◌≡◌, ℕ, List, [], ◌++◌, map, filter, flat_map, false, refl, ap, ◌∙◌}
 use Rattle.dots_host.proofs.WriteLemmas.{owes_all}
-use Rattle.filter_rows.specs.declared.rows.ScrubRow.{ScrubRow}
-use Rattle.filter_rows.specs.declared.rows.AclRow.{AclRow}
-use Rattle.filter_rows.specs.Fates.{fate_by_rows}
+use Rattle.acl_lists.specs.declared.rows.ScrubRow.{ScrubRow}
+use Rattle.acl_lists.specs.declared.rows.AclRow.{AclRow}
+use Rattle.acl_lists.specs.Fates.{fate_by_rows}
 use Rattle.filter_table.specs.TableRows.{PlacedScrub, row_of_scrub, row_of_acl, is_active, active_rows}
 use Rattle.filter_table.specs.declared.placed.PlacedAcl.{PlacedAcl}
 use Rattle.dots_settings.specs.Settings.{SettingsValue}

@@ -8,17 +8,17 @@ use Rattle.dots_settings.specs.Settings.{SettingsValue}
 use Rattle.dots_history.specs.declared.entry.Entry.{Entry}
 use Rattle.dots_history.specs.Bounds.{within_bounds}
 use Rattle.dots_history.specs.Histories.{Kept, mitigations}
-use Rattle.dots_laws.specs.Calm.{is_of_settings, came_rightly, is_own}
-use Rattle.dots_laws.specs.Fits.{last_time, has_one_peer, fits, joins}
-use Rattle.dots_laws.proofs.Joining.{last_of_push}
+use Rattle.dots_history.specs.Calm.{is_of_settings, came_rightly, is_own}
+use Rattle.dots_history.specs.Fits.{last_time, has_one_peer, fits, joins}
+use Rattle.dots_history.proofs.Joining.{last_of_push}
 use Rattle.dots_registry.specs.RegistryValues.{time_of, number_remembered}
 use Rattle.slot_store.specs.StoreValues.{JournalValue}
-use Rattle.dots_ledger.specs.LedgerValues.{CanAccept, joins_at}
-use Rattle.dots_ledger.specs.LedgerValues as ledger
+use Rattle.dots_registry.specs.LedgerValues.{CanAccept, joins_at}
+use Rattle.dots_registry.specs.LedgerValues as ledger
 use Rattle.dots_registry.specs.Limits.{ClientsKeepLimits}
 use Rattle.dots_registry.proofs.FittingEntries.{limits_later, limits_fitting}
 use Rattle.dots_machine.specs.Machine.{State, later, with_entry}
-use Rattle.dots_notices.specs.declared.watch.Watch.{Watch}
+use Rattle.session_core.specs.declared.watch.Watch.{Watch}
 use Rattle.std.proofs.lemmas.List.Elements.{filter-append}
 use Rattle.coap_observe.specs.declared.observer.Observer.{Observer}
 use Rattle.coap_observe.specs.declared.due_among.DueAmong.{DueAmong}

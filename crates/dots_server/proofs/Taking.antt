@@ -8,14 +8,14 @@ use Rattle.dots_host.specs.Acts.{Timed}
 use Rattle.dots_host.specs.Causes.{Rose}
 use Rattle.dots_host.specs.Runs.{Turn, Gives}
 use Rattle.dots_host.proofs.RunLemmas.{added_none}
-use Rattle.dots_disk.specs.Media.{Media}
-use Rattle.dots_disk.specs.Becoming.{Leaves, RestsWith, IsMoment}
-use Rattle.dots_disk.specs.Beside.{KeepsActs}
+use Rattle.dots_host.specs.Media.{Media}
+use Rattle.dots_host.specs.Becoming.{Leaves, RestsWith, IsMoment}
+use Rattle.dots_host.specs.Beside.{KeepsActs}
 use Rattle.slot_store.proofs.Steps.{leaves_as}
 use Rattle.dots_settings.specs.Settings.{SettingsValue}
 use Rattle.dots_history.specs.declared.entry.Entry.{Entry}
-use Rattle.dots_laws.specs.Fits.{last_time}
-use Rattle.dots_laws.proofs.Composing.{kept_later}
+use Rattle.dots_history.specs.Fits.{last_time}
+use Rattle.dots_history.proofs.Composing.{kept_later}
 use Rattle.slot_journal.specs.declared.fault.JournalFault.{JournalFault}
 use Rattle.slot_journal.specs.declared.fault.JournalFault.TheVariants as fault_is
 use Rattle.slot_journal.specs.Refused.{Caused}
@@ -31,7 +31,7 @@ use Rattle.dots_machine.proofs.Fronts.{front_time, fronts_time}
 use Rattle.dots_server.specs.ServerValues.{ServerValue, IsKept}
 use Rattle.dots_server.specs.Turning.{IsServed, HasTurn, Broke}
 use Rattle.dots_server.proofs.Turning.{keeps_itself, added_behind}
-use Rattle.dots_server.specs.Running.{StopsFor}
+use Rattle.dots_server.specs.Running.{StopsFor, FailsOnlyFor}
 use Rattle.dots_server.specs.Taking.{stored_of, Took}
 use Rattle.dots_server.proofs.Looping.{kept_stored}
 
@@ -137,6 +137,13 @@ recover_stops A fault_is.NoMemory wire before now caused = tt
 recover_stops A (fault_is.NotOurs at) wire before now caused = tt
 recover_stops A (fault_is.SettingsChanged stored given) wire before now caused = tt
 recover_stops A (fault_is.TooSmall needed found) wire before now caused = tt
+
+pub recover_counts : (A : Type 0) (fault : JournalFault) (first before now : ℕ) → before ≡ first → Caused {A = A} before now (Err fault) → FailsOnlyFor (stop.Unrecovered fault) first now
+recover_counts A fault_is.DiskFault first before now same caused = tt
+recover_counts A fault_is.NoMemory first before now same caused = caused ∙ same
+recover_counts A (fault_is.NotOurs at) first before now same caused = caused ∙ same
+recover_counts A (fault_is.SettingsChanged stored given) first before now same caused = caused ∙ same
+recover_counts A (fault_is.TooSmall needed found) first before now same caused = caused ∙ same
 
 -- what failed later failed since
 pub stops_more : (how : Stop) (wire wire_more disk disk_more : Type 0) → (wire → wire_more) → (disk → disk_more) → StopsFor how wire disk → StopsFor how wire_more disk_more

@@ -5,14 +5,14 @@ use Rattle.dots_host.specs.declared.out.OwnedOut.{OwnedOut}
 use Rattle.dots_host.specs.Acts.{Timed}
 use Rattle.dots_host.specs.Runs.{Turn, Added, Gives}
 use Rattle.dots_host.proofs.RunLemmas.{added_weaker}
-use Rattle.dots_disk.specs.Media.{Media}
-use Rattle.dots_disk.specs.Becoming.{KeepsMedia, IsMoment}
+use Rattle.dots_host.specs.Media.{Media}
+use Rattle.dots_host.specs.Becoming.{KeepsMedia, IsMoment}
 use Rattle.dots_settings.specs.Settings.{SettingsValue}
 use Rattle.dots_history.specs.declared.entry.Entry.{Entry}
 use Rattle.slot_store.specs.StoreValues.{JournalValue}
-use Rattle.dots_notices.specs.Notifying.{SentTo}
+use Rattle.session_core.specs.Notifying.{SentTo}
 use Rattle.dots_machine.specs.Machine.{State, later, Notified}
-use Rattle.dots_machine.proofs.Observing.{told_history, told_time}
+use Rattle.dots_machine.proofs.Observing.{notified_history, notified_time}
 use Rattle.dots_server.specs.ServerValues.{ServerValue, IsKept}
 use Rattle.dots_server.specs.Turning.{Turned, Stored, LiesOn, IsStored, last_left, Chained}
 use Rattle.dots_server.specs.Taking.{stored_of, Took, BrokeOff}
@@ -42,10 +42,10 @@ module _ (settings : SettingsValue) (conn at : ℕ) (piece : List ℕ) (state : 
     notices = record { sends = sends; left = new }
 
     time_is : new.time ≡ now.time
-    time_is = told_time settings p.rested new sends notified ∙ p.time
+    time_is = notified_time settings p.rested new sends notified ∙ p.time
 
     history_is : new.history ≡ (last_left state p.turns).history
-    history_is = told_history settings p.rested new sends notified ∙ p.left ∙ last_from now state p.turns refl
+    history_is = notified_history settings p.rested new sends notified ∙ p.left ∙ last_from now state p.turns refl
 
     notified_turn : Turned settings (last_left state p.turns) new sends (LiesOn settings (stored_of taken p.few)) (LiesOn settings (stored_of next p.few)) there media_new told acts_new
     notified_turn =

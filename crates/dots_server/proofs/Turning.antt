@@ -5,18 +5,18 @@ use Rattle.dots_host.specs.declared.out.OwnedOut.{OwnedOut}
 use Rattle.dots_host.specs.Acts.{Timed}
 use Rattle.dots_host.specs.Runs.{Added, Gives}
 use Rattle.dots_host.proofs.RunLemmas.{added_none, added_weaker, added_then}
-use Rattle.dots_disk.specs.Media.{Media}
-use Rattle.dots_disk.specs.Becoming.{Leaves, KeepsMedia, IsMoment}
-use Rattle.dots_disk.specs.Beside.{KeepsActs}
+use Rattle.dots_host.specs.Media.{Media}
+use Rattle.dots_host.specs.Becoming.{Leaves, KeepsMedia, IsMoment}
+use Rattle.dots_host.specs.Beside.{KeepsActs}
 use Rattle.slot_store.proofs.Steps.{begins, leaves_as}
 use Rattle.dots_settings.specs.Settings.{SettingsValue}
 use Rattle.dots_history.specs.declared.entry.Entry.{Entry}
 use Rattle.slot_journal.specs.Kept.{HasKept}
-use Rattle.dots_ledger.specs.Crashes.{HasEither}
+use Rattle.dots_registry.specs.Crashes.{HasEither}
 use Rattle.dots_machine.specs.Machine.{State, with_entry}
-use Rattle.dots_notices.specs.Notifying.{SentTo}
-use Rattle.dots_notices.proofs.Sends.{sent_then, sent_none, keeps_then}
-use Rattle.dots_laws.specs.Calm.{is_own}
+use Rattle.session_core.specs.Notifying.{SentTo}
+use Rattle.session_core.proofs.Sends.{sent_then, sent_none, keeps_then}
+use Rattle.dots_history.specs.Calm.{is_own}
 use Rattle.dots_server.specs.Turning.{HasTurn, Turned, TurnedTo, Wrote, Broke, Grows}
 
 -- where nothing was written the disk is as it was, at each moment of none
@@ -88,10 +88,10 @@ sent_behind settings old new outs Before After media there media_new moment last
 }
 
 -- more was sent behind the sends of a turn, which made this of the observers
-pub told_behind : (settings : SettingsValue) (old left new : State) (outs more : List OwnedOut) (Before After : (ℕ → ℕ) → Type 0) (media there media_new : Option Media) (first last : ℕ) (acts told acts_new : Option (List Timed))
+pub notices_behind : (settings : SettingsValue) (old left new : State) (outs more : List OwnedOut) (Before After : (ℕ → ℕ) → Type 0) (media there media_new : Option Media) (first last : ℕ) (acts told acts_new : Option (List Timed))
     → TurnedTo first settings old left outs Before After media there acts told → new.history ≡ left.history → new.time ≡ left.time
     → Added told acts_new (SentTo first last more) → KeepsMedia there media_new → Turned settings old new (outs ++ more) Before After media media_new acts acts_new
-told_behind settings old left new outs more Before After media there media_new first last acts told acts_new turned history time sent keeps = record {
+notices_behind settings old left new outs more Before After media there media_new first last acts told acts_new turned history time sent keeps = record {
   between = turned.between;
   moment = turned.moment;
   is_moment = turned.is_moment;

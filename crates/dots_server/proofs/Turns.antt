@@ -8,14 +8,14 @@ use Rattle.dots_host.specs.declared.out.OwnedOut.{OwnedOut}
 use Rattle.dots_host.specs.Acts.{WireAct, took, gave, Timed, Adds, event_of}
 use Rattle.dots_host.specs.Runs.{Owing, resting, Turn, owed_in, each_telling, Added, IsSend, outs_of, Gives, IsNoEnd, GoOn, count_of, events_in}
 use Rattle.dots_host.proofs.RunLemmas.{outs_back, added_none, added_weaker, added_then, added_by}
-use Rattle.dots_disk.specs.Media.{Media}
-use Rattle.dots_disk.specs.Becoming.{Leaves, RestsWith, KeepsMedia, IsMoment}
-use Rattle.dots_disk.specs.Beside.{KeepsActs}
+use Rattle.dots_host.specs.Media.{Media}
+use Rattle.dots_host.specs.Becoming.{Leaves, RestsWith, KeepsMedia, IsMoment}
+use Rattle.dots_host.specs.Beside.{KeepsActs}
 use Rattle.slot_store.proofs.Steps.{rests_as}
 use Rattle.dots_settings.specs.Settings.{SettingsValue}
 use Rattle.dots_history.specs.declared.entry.Entry.{Entry}
-use Rattle.dots_laws.specs.Fits.{last_time}
-use Rattle.dots_laws.proofs.Composing.{kept_later}
+use Rattle.dots_history.specs.Fits.{last_time}
+use Rattle.dots_history.proofs.Composing.{kept_later}
 use Rattle.slot_journal.specs.Kept.{HasKept}
 use Rattle.dots_machine.specs.declared.ending.Stop.{Stop}
 use Rattle.dots_machine.specs.declared.ending.Stop.TheVariants as stop
@@ -87,9 +87,9 @@ outs_then : (xs ys : List (State × OwnedOut)) → outs_of (xs ++ ys) ≡ outs_o
 outs_then [] ys = refl
 outs_then (x ∷ xs) ys = ap (λ zs. x.1 ∷ zs) (outs_then xs ys)
 
-told_then : (xs ys : List (State × OwnedOut)) → shown_by (xs ++ ys) ≡ shown_by xs ++ shown_by ys
-told_then [] ys = refl
-told_then (x ∷ xs) ys = ap (λ zs. x.0 ∷ zs) (told_then xs ys)
+shown_append : (xs ys : List (State × OwnedOut)) → shown_by (xs ++ ys) ≡ shown_by xs ++ shown_by ys
+shown_append [] ys = refl
+shown_append (x ∷ xs) ys = ap (λ zs. x.0 ∷ zs) (shown_append xs ys)
 
 -- an event that is neither goes on
 pub no_end : (what : What) (room : List ℕ) (at : ℕ) → what ≢ what_is.End → what ≢ what_is.Failed → IsNoEnd (took (event_of what room) at)
@@ -217,7 +217,7 @@ module _ (settings : SettingsValue) where
             (stored_rests time time turn.left.history between turned.between is_new is_new.timely (rests_c rests)) turned.sends in
             subst (λ ts. IsAt settings start (last_left turn.left turns).history time first d (acts ++ (front ++ back)) ts)
             (append_assoc trace (shown_by (each_telling turn.left turn.sends)) (shown_by (owed_in turns))
-            ∙ ap (λ ts. trace ++ ts) (sym (told_then (each_telling turn.left turn.sends) (owed_in turns))))
+            ∙ ap (λ ts. trace ++ ts) (sym (shown_append (each_telling turn.left turn.sends) (owed_in turns))))
             (subst (λ es. IsAt settings start (last_left turn.left turns).history time first d es ((trace ++ shown_by (each_telling turn.left turn.sends)) ++ shown_by (owed_in turns)))
             (append_assoc acts front back)
             (rest.on (rests_there rests) (acts ++ front) (trace ++ shown_by (each_telling turn.left turn.sends)) here));
@@ -419,8 +419,8 @@ module _ (settings : SettingsValue) where
             whole = front;
             behind = event_taken ∷ more;
             acts_are = refl;
-            told = trace;
-            told_behind = last.left ∷ shown_by (owed_in turns);
+            states = trace;
+            states_behind = last.left ∷ shown_by (owed_in turns);
             trace_is = refl;
             state = old;
             run = l.0.story;

@@ -19,13 +19,13 @@ use Rattle.conflict_rules.specs.Results.{Fails}
 use Rattle.dots_registry.specs.RegistryValues.{time_of, number_remembered}
 use Rattle.dots_registry.specs.RegistryValues as registry
 use Rattle.conflict_rules.specs.ByHistory.{judge_request}
-use Rattle.target_rules.specs.declared.target.TargetFault.{TargetFault}
-use Rattle.coap_replies.specs.declared.exchange.Exchange.{Exchange}
+use Rattle.conflict_rules.specs.declared.target.TargetFault.{TargetFault}
+use Rattle.dots_keys.specs.declared.exchange.Exchange.{Exchange}
 use Rattle.dots_machine.specs.declared.mitigation_request.MitigationRequest.{MitigationRequest}
 use Rattle.dots_machine.specs.Verdict.{Verdict}
 use Rattle.dots_machine.specs.declared.verdict.Verdict.TheVariants as verdict
 use Rattle.dots_machine.specs.Domains.{is_gateway, config_domain, is_stranger}
-use Rattle.target_rules.specs.Targets.{scope_fault}
+use Rattle.conflict_rules.specs.AskableTargets.{scope_fault}
 use Rattle.dots_machine.specs.Replies.{bad_target}
 use Rattle.dots_machine.specs.MessageRepeats.{Sent, unless_repeated}
 use Rattle.dots_machine.specs.Mitigations.{sent_by, request_of, judged, unless_faulty, put_answer}

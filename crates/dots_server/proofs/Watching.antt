@@ -9,9 +9,9 @@ use Rattle.coap_observe.specs.Observed.{ObservedValue}
 use Rattle.coap_observe.specs.Observing.{registered, deregistered}
 use Rattle.conflict_rules.specs.LiveViews.{LiveView, live_views_of, live_views_in}
 use Rattle.conflict_rules.specs.Statuses.{view_with, views_in}
-use Rattle.dots_heads.specs.declared.request.Content.{Content}
-use Rattle.dots_heads.specs.declared.request.Observe.{Observe}
-use Rattle.dots_heads.specs.declared.request.Observe.TheVariants as said
+use Rattle.dots_keys.specs.declared.head_request.Content.{Content}
+use Rattle.dots_keys.specs.declared.head_request.Observe.{Observe}
+use Rattle.dots_keys.specs.declared.head_request.Observe.TheVariants as said
 use Rattle.dots_history.specs.Histories.{Mitigation}
 use Rattle.dots_history.specs.declared.entry.Entry.{Entry}
 use Rattle.dots_keys.specs.declared.request.Request.{Request}
@@ -27,9 +27,9 @@ use Rattle.held_resources.specs.Tables.{lost_in}
 use Rattle.live_mitigations.specs.LiveValues.{rows_for}
 use Rattle.live_mitigations.proofs.Room.{rows_are_live, views_are}
 use Rattle.dots_machine.specs.declared.client_request.ClientRequest.{ClientRequest}
-use Rattle.coap_replies.specs.declared.dismissal.Dismissal.{Dismissal}
-use Rattle.coap_replies.specs.declared.dismissal.Dismissal.TheVariants as dismissal
-use Rattle.coap_replies.specs.declared.exchange.Exchange.{Exchange}
+use Rattle.dots_keys.specs.declared.dismissal.Dismissal.{Dismissal}
+use Rattle.dots_keys.specs.declared.dismissal.Dismissal.TheVariants as dismissal
+use Rattle.dots_keys.specs.declared.exchange.Exchange.{Exchange}
 use Rattle.dots_machine.specs.declared.received.Received.TheVariants as received
 use Rattle.dots_machine.specs.declared.watching.Watching.TheVariants as watching
 use Rattle.dots_machine.specs.Verdict.{Verdict}
@@ -47,7 +47,7 @@ use Rattle.coap_observe.specs.Observing.{ObserversValue}
 use Rattle.dots_history.specs.declared.change.Change.TheVariants as change
 use Rattle.dots_history.specs.declared.entry.MessageKey.TheVariants as key
 use Rattle.dots_history.specs.Entries.{is_signal, is_configuration, is_loss}
-use Rattle.dots_laws.specs.Calm.{may_act, is_of_settings}
+use Rattle.dots_history.specs.Calm.{may_act, is_of_settings}
 use Rattle.dots_registry.specs.RegistryValues.{pair_of}
 use Rattle.dots_registry.proofs.Rings.{own_has_ring}
 use Rattle.dots_server.specs.declared.deciding.Decision.{Decision}
@@ -114,14 +114,14 @@ module _ (server : ServerValue) where
   alone_ready decided (Ok decision) is can = subst (λ r. IfOk r (λ v. CanCarryOut v server)) is.1 can
 
   -- ---- a GET of mitigations
-  tell_available : (number : Option ℕ) (x : Exchange) (content : Content) (ms : List LiveView) (peer : ℕ) → is_unavailable (sends_of number (get_reply x content ms) peer) ≡ false
-  tell_available number x content [] peer = refl
-  tell_available number x content (m ∷ ms) peer = refl
+  retrieved_available : (number : Option ℕ) (x : Exchange) (content : Content) (ms : List LiveView) (peer : ℕ) → is_unavailable (sends_of number (get_reply x content ms) peer) ≡ false
+  retrieved_available number x content [] peer = refl
+  retrieved_available number x content (m ∷ ms) peer = refl
 
   get_available : (number : Option ℕ) (x : Exchange) (mid : Option ℕ) (content : Content) (taken : Bool) (ms : List LiveView) (peer : ℕ)
       → is_unavailable (sends_of number (get_by x mid content taken ms) peer) ≡ false
   get_available number x mid content true ms peer = refl
-  get_available number x mid content false ms peer = tell_available number x content (filter (is_wanted mid) ms) peer
+  get_available number x mid content false ms peer = retrieved_available number x content (filter (is_wanted mid) ms) peer
 
   -- something else than mitigations is told
   module _ (settings : SettingsValue) (facts : Facts) (from : ClientRequest) (mid : Option ℕ) (content : Content) (observed : List ObservedValue) (v : Verdict)
@@ -135,18 +135,18 @@ module _ (server : ServerValue) where
     available : is_unavailable (sends_of None v from.peer) ≡ false
     available = ap (λ v. is_unavailable (sends_of None v from.peer)) is ∙ get_available None from.exchange mid content (is_taken facts from) (facts.views (client_for from)) from.peer
 
-    told_so : (lists : Lists) (s : Observe)
+    watched_so : (lists : Lists) (s : Observe)
         → observing settings lists from.peer (asked_from from mid content s) answer (sends_of None v from.peer) observed ≡ changed settings.limits.observers lists from.peer (leaving from.exchange s) observed
-    told_so lists said.Register =
+    watched_so lists said.Register =
         cond-false (is_retrieved answer) (registered lists settings.limits.observers (record { peer = from.peer; domain = from.domain; token = from.exchange.token; cuid = from.cuid; mid = mid; content = content }) observed) observed
         (shows_nothing answer can_answer)
-    told_so lists said.Deregister = cond-false (is_unavailable (sends_of None v from.peer)) observed (deregistered from.peer from.exchange.token observed) available
-    told_so lists said.No = refl
+    watched_so lists said.Deregister = cond-false (is_unavailable (sends_of None v from.peer)) observed (deregistered from.peer from.exchange.token observed) available
+    watched_so lists said.No = refl
 
-    pub told_does : (s : Observe) → Does settings from.peer observed (asked_from from mid content s) answer (leaving from.exchange s) v
-    told_does s = record {
+    pub watched_does : (s : Observe) → Does settings from.peer observed (asked_from from mid content s) answer (leaving from.exchange s) v
+    watched_does s = record {
       verdict_is = is ∙ sym (spoken_plain (number_of settings (asked_from from mid content s) observed) answer can_answer);
-      observers = λ lists. told_so lists s;
+      observers = λ lists. watched_so lists s;
     }
 
 -- mitigations are shown

@@ -11,10 +11,10 @@ use Rattle.dots_settings.specs.Lookups.{role_of}
 use Rattle.dots_machine.specs.Replies.{unavailable}
 use Rattle.dots_machine.specs.Domains.{is_gateway, is_stranger}
 use Rattle.dots_machine.specs.Requests.{IsReceived}
-use Rattle.dots_replies.specs.Receiving.{IsGrantable, Lacks}
+use Rattle.dots_server.specs.Receiving.{IsGrantable, Lacks}
 use Rattle.dots_server.specs.declared.deciding.Came.{Came}
 use Rattle.dots_server.specs.declared.deciding.Came.TheVariants as came
-use Rattle.dots_server.specs.Sessions.{is_heard}
+use Rattle.dots_server.specs.HearingPeers.{is_heard}
 use Rattle.dots_machine.specs.declared.watching.Watching.{Watching}
 use Rattle.dots_machine.specs.Observing.{watching_of}
 use Rattle.dots_server.specs.Observing.{Does}

@@ -1,3 +1,4 @@
+pub mod Receiving
 pub mod Gathering
 pub mod Lines
 pub mod Running
@@ -5,8 +6,8 @@ pub mod Taking
 pub mod ServerValues
 pub mod Turning
 pub mod Observing
-pub mod Reading
+pub mod MitigationReading
 pub mod Asking
-pub mod Sessions
+pub mod HearingPeers
 pub mod Pieces
 pub mod Signals

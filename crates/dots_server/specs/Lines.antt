@@ -3,8 +3,8 @@ use Rattle.std.specs.Prelude.{ℕ, Bool, true, false, List, [], ◌++◌, map, f
 use Rattle.ip_scope.specs.Prefix.{PrefixValue}
 use Rattle.ip_scope.specs.PrefixText.{prefix_text}
 use Rattle.acl_lists.specs.declared.ace.Ace.{Ace}
-use Rattle.filter_rows.specs.declared.rows.ScrubRow.{ScrubRow}
-use Rattle.filter_rows.specs.declared.rows.AclRow.{AclRow}
+use Rattle.acl_lists.specs.declared.rows.ScrubRow.{ScrubRow}
+use Rattle.acl_lists.specs.declared.rows.AclRow.{AclRow}
 use Rattle.filter_table.specs.declared.placed.PlacedAcl.{PlacedAcl}
 use Rattle.filter_table.specs.TableRows.{row_of_acl}
 use Rattle.dots_settings.specs.Settings.{SettingsValue}

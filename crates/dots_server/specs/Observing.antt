@@ -11,19 +11,19 @@ use Rattle.coap_observe.specs.Observing.{registered, deregistered, without_id}
 use Rattle.conflict_rules.specs.LiveViews.{LiveView}
 use Rattle.live_mitigations.specs.LiveValues.{rows_for}
 use Rattle.held_resources.specs.Tables.{lost_in}
-use Rattle.dots_heads.specs.declared.request.Content.{Content}
-use Rattle.dots_heads.specs.declared.request.Observe.{Observe}
-use Rattle.dots_heads.specs.declared.request.Observe.TheVariants as said
+use Rattle.dots_keys.specs.declared.head_request.Content.{Content}
+use Rattle.dots_keys.specs.declared.head_request.Observe.{Observe}
+use Rattle.dots_keys.specs.declared.head_request.Observe.TheVariants as said
 use Rattle.dots_settings.specs.Settings.{SettingsValue}
-use Rattle.dots_notices.specs.Notifying.{Bodies}
+use Rattle.session_core.specs.Notifying.{Bodies}
 use Rattle.dots_history.specs.declared.entry.Entry.{Entry}
 use Rattle.dots_registry.specs.RegistryValues.{RegistryValue, time_of, domains_of}
 use Rattle.dots_registry.specs.RegistryValues as registry
 use Rattle.dots_registry.specs.ObserverViews.{views_among}
 use Rattle.dots_machine.specs.declared.client_request.ClientRequest.{ClientRequest}
-use Rattle.coap_replies.specs.declared.exchange.Exchange.{Exchange}
-use Rattle.coap_replies.specs.declared.dismissal.Dismissal.{Dismissal}
-use Rattle.coap_replies.specs.declared.dismissal.Dismissal.TheVariants as dismissal
+use Rattle.dots_keys.specs.declared.exchange.Exchange.{Exchange}
+use Rattle.dots_keys.specs.declared.dismissal.Dismissal.{Dismissal}
+use Rattle.dots_keys.specs.declared.dismissal.Dismissal.TheVariants as dismissal
 use Rattle.dots_machine.specs.declared.watching.Watching.{Watching}
 use Rattle.dots_machine.specs.declared.watching.Watching.TheVariants as watching
 use Rattle.dots_machine.specs.Verdict.{Verdict}

@@ -3,9 +3,9 @@ use Rattle.std.specs.Prelude.{◌≡◌, ◌⊎◌, ℕ, ◌≤◌, true, List, 
 use Rattle.std.specs.List.{list_all}
 use Rattle.dots_host.specs.Acts.{Timed}
 use Rattle.dots_host.specs.Runs.{Owing, resting, Added, GoOn, events_in}
-use Rattle.dots_disk.specs.Media.{Media}
+use Rattle.dots_host.specs.Media.{Media}
 use Rattle.dots_settings.specs.Settings.{SettingsValue}
-use Rattle.dots_laws.specs.Calm.{is_own}
+use Rattle.dots_history.specs.Calm.{is_own}
 use Rattle.slot_journal.specs.declared.fault.JournalFault.TheVariants as fault
 use Rattle.dots_machine.specs.declared.ending.Stop.{Stop}
 use Rattle.dots_machine.specs.declared.ending.Stop.TheVariants as stop
@@ -50,6 +50,12 @@ StopsFor stop.TooMany wire disk = ⊤
 StopsFor stop.DiskFailed wire disk = disk
 StopsFor (stop.Unrecovered fault.DiskFault) wire disk = disk
 StopsFor (stop.Unrecovered _) wire disk = ⊤
+
+-- no call of the disk failed, unless the events stopped for that
+abbrev pub FailsOnlyFor : Stop → ℕ → ℕ → Type 0
+FailsOnlyFor stop.DiskFailed before now = ⊤
+FailsOnlyFor (stop.Unrecovered fault.DiskFault) before now = ⊤
+FailsOnlyFor _ before now = now ≡ before
 
 -- the disk rested at the start of a run, or the acts of the run are told, and none is a restart
 abbrev pub IsFollowed : Type 0 → Option (List Timed) → Option (List Timed) → Type 0

@@ -6,22 +6,22 @@ use Rattle.dots_settings.specs.Settings.{SettingsValue}
 use Rattle.dots_history.specs.declared.entry.Entry.{Entry}
 use Rattle.dots_history.specs.Bounds.{within_bounds}
 use Rattle.dots_history.specs.Histories.{Kept, mitigations}
-use Rattle.dots_laws.specs.Calm.{is_own}
-use Rattle.dots_laws.specs.Fits.{last_time, has_one_peer}
+use Rattle.dots_history.specs.Calm.{is_own}
+use Rattle.dots_history.specs.Fits.{last_time, has_one_peer}
 use Rattle.dots_registry.specs.RegistryValues.{RegistryValue, IsOf, time_of}
 use Rattle.dots_registry.specs.RegistryValues as registry
 use Rattle.dots_registry.specs.ObserverViews.{views_of}
 use Rattle.dots_registry.specs.Fitting.{fits_now}
 use Rattle.slot_store.specs.StoreValues.{JournalValue}
 use Rattle.slot_journal.specs.Sizes.{slots_of}
-use Rattle.dots_ledger.specs.LedgerValues.{LedgerValue}
-use Rattle.dots_ledger.specs.LedgerValues as ledger
+use Rattle.dots_registry.specs.LedgerValues.{LedgerValue}
+use Rattle.dots_registry.specs.LedgerValues as ledger
 use Rattle.dots_registry.specs.Limits.{ClientsKeepLimits}
 use Rattle.coap_exchange.specs.Pairs.{pairs_of}
 use Rattle.coap_observe.specs.Observed.{ObservedValue}
 use Rattle.coap_observe.specs.DueAmong.{AreNotified}
 use Rattle.coap_observe.specs.Observing.{ObserversValue}
-use Rattle.dots_notices.specs.declared.watch.Watch.{Watch}
+use Rattle.session_core.specs.declared.watch.Watch.{Watch}
 use Rattle.stream_table.specs.Lines.{PeerLines, AreOf}
 use Rattle.stream_table.specs.Places.{AreApart}
 use Rattle.dots_machine.specs.Verdict.{Verdict}

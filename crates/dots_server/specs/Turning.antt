@@ -6,18 +6,18 @@ use Rattle.dots_host.specs.declared.event.What.TheVariants as what
 use Rattle.dots_host.specs.declared.out.OwnedOut.{OwnedOut}
 use Rattle.dots_host.specs.Acts.{Timed}
 use Rattle.dots_host.specs.Runs.{Turn, Added, Gives}
-use Rattle.dots_disk.specs.Media.{Media}
-use Rattle.dots_disk.specs.Becoming.{Leaves, RestsWith, KeepsMedia, IsMoment}
-use Rattle.dots_disk.specs.Beside.{KeepsActs}
+use Rattle.dots_host.specs.Media.{Media}
+use Rattle.dots_host.specs.Becoming.{Leaves, RestsWith, KeepsMedia, IsMoment}
+use Rattle.dots_host.specs.Beside.{KeepsActs}
 use Rattle.dots_settings.specs.Settings.{SettingsValue}
 use Rattle.dots_history.specs.declared.entry.Entry.{Entry}
 use Rattle.dots_history.specs.Histories.{Kept}
-use Rattle.dots_laws.specs.Calm.{is_own}
-use Rattle.dots_laws.specs.Fits.{is_calm, last_time}
+use Rattle.dots_history.specs.Calm.{is_own}
+use Rattle.dots_history.specs.Fits.{is_calm, last_time}
 use Rattle.slot_store.specs.StoreValues.{JournalValue}
 use Rattle.slot_journal.specs.DiskEntries as journal
 use Rattle.slot_journal.specs.Kept.{HasKept}
-use Rattle.dots_notices.specs.Notifying.{SentTo}
+use Rattle.session_core.specs.Notifying.{SentTo}
 use Rattle.dots_machine.specs.Machine.{State}
 
 -- an event that a server takes: neither the end nor a failure of the host, nor a restart, at which a server begins anew

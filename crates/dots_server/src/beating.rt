@@ -3,14 +3,14 @@
 ghost use Rattle.std.specs.Prelude.{◌≡◌, true, List, option_map};
 ghost use Rattle.std.specs.List.{list_all};
 ghost use Rattle.dots_history.specs.declared.entry.Entry.{Entry};
-ghost use Rattle.dots_laws.specs.Calm.{is_own};
+ghost use Rattle.dots_history.specs.Calm.{is_own};
 ghost use Rattle.held_resources.specs.Tables.{config_now};
 ghost use Rattle.dots_registry.specs.RegistryValues.{Represents};
-ghost use Rattle.dots_machine.specs.Sessions.{configured_by, values_in_force};
+ghost use Rattle.dots_machine.specs.ConfiguredPeers.{configured_by, values_in_force};
 
+use crate::configurations::config_in;
 use dots_history::{Config, Values};
 use dots_registry::Registry;
-use dots_replies::config_in;
 use dots_settings::{Role, Settings};
 use session_core::Configs;
 
@@ -22,7 +22,7 @@ pub(crate) struct PeerBeats<'a> {
 }
 
 impl Configs for PeerBeats<'_> {
-    ghost use Rattle.dots_server.specs.Sessions.{SaysBeat};
+    ghost use Rattle.dots_server.specs.HearingPeers.{SaysBeat};
 
     ghost Says = { λ beats. λ peer. λ beat. SaysBeat beats.settings.now beats.registry.now peer beat };
 

@@ -5,28 +5,27 @@ ghost use Rattle.dots_settings.specs.Settings.{SettingsValue};
 ghost use Rattle.dots_settings.specs.Lookups.{role_of};
 ghost use Rattle.dots_history.specs.Bounds.{change_within};
 ghost use Rattle.dots_history.specs.Entries.{is_configuration};
-ghost use Rattle.dots_laws.specs.Calm.{may_configure};
+ghost use Rattle.dots_history.specs.Calm.{may_configure};
 ghost use Rattle.held_resources.specs.Tables.{config_now};
 ghost use Rattle.dots_registry.specs.RegistryValues.{time_of};
 ghost use Rattle.session_core.specs.Negotiating.{negotiated};
 ghost use Rattle.dots_machine.specs.Domains.{config_domain};
 ghost use Rattle.dots_machine.specs.Machine.{State, facts_in};
 ghost use Rattle.dots_machine.specs.declared.verdict.Verdict.TheVariants as verdicts;
-ghost use Rattle.dots_machine.specs.Sessions.{sid_of, is_held, configured_in};
+ghost use Rattle.dots_machine.specs.ConfiguredPeers.{sid_of, is_held, configured_in};
 ghost use Rattle.dots_machine.specs.Deciding.{in_domain, config_entry, config_answer, put_config_for, clear_answer, delete_config_for, config_view, get_config_for};
 ghost use Rattle.dots_server.specs.Asking.{role_with, IsOwn};
-ghost use Rattle.dots_server.specs.Sessions.{is_wanted};
+ghost use Rattle.dots_server.specs.HearingPeers.{is_wanted};
 ghost use Rattle.dots_server.specs.ServerValues.{Represents, CanCarryOut};
 
+use crate::entries::config_entry;
+use crate::long_replies::configuration_reply;
+use crate::replies::{absent, configuring, deleted, older_sid, out_of_range};
 use crate::server::Server;
 use crate::verdict::Verdict;
-use coap_replies::{Exchange, ShortMessage};
 use dots_history::{Change, Config};
-use dots_keys::ConfigBody;
+use dots_keys::{ConfigBody, Exchange, ShortMessage};
 use dots_lists::NoMemory;
-use dots_replies::{
-    absent, config_entry, configuration_reply, configuring, deleted, older_sid, out_of_range,
-};
 use dots_settings::NO_DOMAIN;
 use session_core::{ConfigFault, negotiate};
 

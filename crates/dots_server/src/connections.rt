@@ -3,14 +3,13 @@
 ghost use Rattle.std.specs.Prelude.{◌≡◌, [], ◌∷◌};
 ghost use Rattle.dots_host.specs.Runs.{Added};
 ghost use Rattle.dots_host.specs.declared.out.OwnedOut.TheVariants as owned;
-ghost use Rattle.dots_disk.specs.Becoming.{KeepsMedia};
+ghost use Rattle.dots_host.specs.Becoming.{KeepsMedia};
 ghost use Rattle.stream_table.specs.Lines.{opened, opening, forgotten};
 ghost use Rattle.dots_machine.specs.Machine.{turned_away};
-ghost use Rattle.dots_notices.specs.Notifying.{SentTo};
+ghost use Rattle.session_core.specs.Notifying.{SentTo};
 
 use crate::server::Server;
-use dots_disk::Host;
-use dots_host::Out;
+use dots_host::{Host, Out};
 
 impl Server {
     /// Takes a connection that a peer opened, or closes it. What had its number before is let go.

@@ -5,7 +5,7 @@ ghost use Rattle.dots_keys.specs.Askable.{IsAskable, IsAskableBody};
 ghost use Rattle.dots_keys.specs.Waiting.{WaitsForClient};
 ghost use Rattle.dots_settings.specs.Settings.{SettingsValue};
 ghost use Rattle.dots_settings.specs.Lookups.{role_of};
-ghost use Rattle.dots_laws.specs.Calm.{may_act, is_client_of};
+ghost use Rattle.dots_history.specs.Calm.{may_act, is_client_of};
 ghost use Rattle.dots_machine.specs.Machine.{State, reject_verdict, dismissal_verdict, facts_in};
 ghost use Rattle.dots_machine.specs.Observing.{in_known, asked_in, watching_of};
 ghost use Rattle.dots_machine.specs.Mitigations.{get_answer};
@@ -16,21 +16,24 @@ ghost use Rattle.dots_server.specs.Observing.{asked_from, leaving, rejecting, Do
 ghost use Rattle.dots_machine.specs.Domains.{domain_for};
 ghost use Rattle.dots_machine.specs.Deciding.{in_domain, with_mid, put_in, put_for, delete_in, delete_for, get_for, answer_to};
 ghost use Rattle.dots_server.specs.Asking.{IsOwn, IsCome, heard_by, domain_asked, DoesOn};
-ghost use Rattle.dots_replies.specs.Receiving.{IsGrantable};
+ghost use Rattle.dots_server.specs.Receiving.{IsGrantable};
 ghost use Rattle.dots_server.specs.ServerValues.{Represents, CanCarryOut};
-ghost use Rattle.dots_server.specs.Sessions.{is_heard};
+ghost use Rattle.dots_server.specs.HearingPeers.{is_heard};
 
+use crate::long_replies::showing;
 use crate::mitigations::Reading;
+use crate::receiving::receive;
+use crate::replies::{bad_parameter, heartbeat_reply, unavailable};
 use crate::server::Server;
 use crate::verdict::Verdict;
 use coap_message::Kind;
 use coap_observe::Observer;
-use coap_replies::{Dismissal, Exchange, rejection, reset};
-use dots_heads::{Content, MitigationPath, Observe, Reject};
-use dots_keys::{MitigationBody, Request};
+use dots_keys::{
+    Content, Dismissal, Exchange, MitigationBody, MitigationPath, Observe, Reject, Request,
+    rejection, reset,
+};
 use dots_lists::{Bytes, Name, NoMemory};
 use dots_machine::{ClientRequest, MitigationRequest, Received, Watching};
-use dots_replies::{bad_parameter, heartbeat_reply, receive, showing, unavailable};
 use dots_settings::Role;
 
 /// What is to be done.

@@ -1,7 +1,7 @@
 //! The loop over the events of a host.
 
 ghost use Rattle.std.specs.Prelude.{◌≡◌, ◌≤◌, List, length, IfOk, IfErr, ⊤};
-ghost use Rattle.dots_disk.specs.Becoming.{RestsWith};
+ghost use Rattle.dots_host.specs.Becoming.{RestsWith};
 ghost use Rattle.dots_host.specs.Causes.{Rose};
 ghost use Rattle.dots_host.specs.Runs.{Owing, Added};
 ghost use Rattle.dots_host.specs.declared.TheConstants.{MAX_EVENT_BYTES};
@@ -10,12 +10,12 @@ ghost use Rattle.dots_history.specs.declared.entry.Entry.{Entry};
 ghost use Rattle.slot_store.specs.Layout.{needed_of};
 ghost use Rattle.slot_journal.specs.DiskEntries as journal;
 ghost use Rattle.dots_machine.specs.Machine.{State};
+ghost use Rattle.dots_machine.specs.Endings.{IsSized};
 ghost use Rattle.dots_server.specs.ServerValues.{Represents, IsKept};
-ghost use Rattle.dots_server.specs.Running.{Came, IsFollowed, StopsFor, stop_of};
+ghost use Rattle.dots_server.specs.Running.{Came, IsFollowed, StopsFor, FailsOnlyFor, stop_of};
 
 use crate::server::Server;
-use dots_disk::Host;
-use dots_host::{MAX_EVENT_BYTES, What};
+use dots_host::{Host, MAX_EVENT_BYTES, What};
 use dots_machine::Stop;
 
 /// The most events of a run.
@@ -36,6 +36,9 @@ pub fn take_events<H: Host>(server: Server, host: &mut H, room: &mut [u8]) -> Re
     ensures adds { Added (H.acts host.old) (H.acts host.new) (λ _. ⊤) }
     ensures settings { IfOk result (λ now. now.settings ≡ server.settings) }
     ensures stopped { IfErr result (λ how. StopsFor how (Rose (H.Wire.faults host.old) (H.Wire.faults host.new)) (Rose (H.Disk.faults host.old) (H.Disk.faults host.new))) }
+    // No call of the disk failed, unless the events stopped for that; and no restart found it too small.
+    ensures counts { FailsOnlyFor (stop_of result) (H.Disk.faults host.old) (H.Disk.faults host.new) }
+    ensures sized { IfErr result IsSized }
     ensures leads { H.leads host.old host.new }
     ensures later { H.Wire.faults host.old ≤ H.Wire.faults host.new }
 {

@@ -4,7 +4,7 @@ ghost use Rattle.std.specs.Prelude.{◌≡◌, ◌≢◌, ◌≤◌, ◌<◌, �
 ghost use Rattle.dots_keys.specs.Askable.{IsAskableBody};
 ghost use Rattle.dots_settings.specs.Settings.{SettingsValue};
 ghost use Rattle.dots_settings.specs.Lookups.{role_of, prefixes_of};
-ghost use Rattle.dots_laws.specs.Calm.{may_act, is_client_of};
+ghost use Rattle.dots_history.specs.Calm.{may_act, is_client_of};
 ghost use Rattle.dots_history.specs.declared.entry.Entry.{Entry};
 ghost use Rattle.conflict_rules.specs.Results.{Gives};
 ghost use Rattle.conflict_rules.specs.declared.fault.PutFault.TheVariants as faults;
@@ -15,7 +15,7 @@ ghost use Rattle.reply_bodies.specs.Mitigations.{scope_of};
 ghost use Rattle.dots_machine.specs.Machine.{State, facts_in};
 ghost use Rattle.dots_lists.specs.Name.{is_name};
 ghost use Rattle.dots_machine.specs.Replies.{conflicting, deleted, granting, mitigation_fields};
-ghost use Rattle.target_rules.specs.Targets.{scope_fault};
+ghost use Rattle.conflict_rules.specs.AskableTargets.{scope_fault};
 ghost use Rattle.dots_machine.specs.declared.verdict.Verdict.TheVariants as verdicts;
 ghost use Rattle.dots_machine.specs.Mitigations.{grant, entry_of, refusal, judged, request_of, is_wanted, put_answer, is_taken, delete_by, delete_answer, get_answer, client_for};
 ghost use Rattle.dots_machine.specs.Deciding.{delete_in};
@@ -23,20 +23,21 @@ ghost use Rattle.conflict_rules.specs.LiveViews.{LiveView};
 ghost use Rattle.live_mitigations.specs.LiveViews.{row_view};
 ghost use Rattle.conflict_rules.specs.Statuses.{is_standing, views_in};
 ghost use Rattle.dots_server.specs.ServerValues.{Represents, CanCarryOut};
-ghost use Rattle.dots_server.specs.Reading.{read_as, CanAnswer};
+ghost use Rattle.dots_server.specs.MitigationReading.{read_as, CanAnswer};
 
+use crate::entries::{copies, entry_of};
+use crate::long_replies::{conflicting, retrieved_body};
+use crate::replies::{
+    absent, at_capacity, bad_request, bad_target, deleted, granting, unavailable,
+};
 use crate::server::Server;
 use crate::verdict::Verdict;
-use coap_replies::{Exchange, ShortMessage};
 use conflict_rules::{Judged, PutFault, PutRequest};
 use dots_history::{Change, Entry};
+use dots_keys::{Exchange, ShortMessage};
 use dots_lists::{Bytes, List, Name, NoMemory};
 use dots_machine::{ClientRequest, MitigationRequest, scope_fault};
 use dots_registry::Registry;
-use dots_replies::{
-    absent, at_capacity, bad_request, bad_target, conflicting, copies, deleted, entry_of, granting,
-    retrieved_body, unavailable,
-};
 use dots_settings::Settings;
 use live_mitigations::MitigationRow;
 use reply_bodies::{ConflictCause, Content, MitigationView, ViewList};

@@ -3,25 +3,25 @@
 ghost use Rattle.std.specs.Prelude.{◌≡◌, List, IfOk, ⊤};
 ghost use Rattle.dots_host.specs.Runs.{Added};
 ghost use Rattle.dots_host.specs.declared.out.OwnedOut.{OwnedOut};
-ghost use Rattle.dots_disk.specs.Becoming.{KeepsMedia};
+ghost use Rattle.dots_host.specs.Becoming.{KeepsMedia};
 ghost use Rattle.dots_settings.specs.Settings.{SettingsValue};
 ghost use Rattle.dots_history.specs.declared.entry.Entry.{Entry};
 ghost use Rattle.dots_machine.specs.Machine.{State, Notified};
-ghost use Rattle.dots_notices.specs.Notifying.{SentTo, IsKnown, OnlyUnheardAreDue};
+ghost use Rattle.session_core.specs.Notifying.{SentTo, IsKnown, OnlyUnheardAreDue};
 ghost use Rattle.dots_registry.specs.ObserverViews.{views_of};
 ghost use Rattle.dots_server.specs.Observing.{MayObserve, changed};
 ghost use Rattle.dots_server.specs.ServerValues.{observers_of, IsKept};
 
+use crate::long_replies::retrieved_body;
 use crate::mitigations::views_of;
 use crate::server::Server;
 use coap_observe::{Observer, Views};
-use dots_disk::Host;
+use dots_host::Host;
 use dots_lists::{Bytes, List, NoMemory};
 use dots_machine::Watching;
-use dots_notices::{ViewBodies, notify};
 use dots_registry::Registry;
-use dots_replies::retrieved_body;
 use dots_settings::Settings;
+use session_core::{ViewBodies, notify};
 use std::alloc::Global;
 use std::marker::Model;
 

@@ -4,11 +4,11 @@ ghost use Rattle.std.specs.Prelude.{◌≡◌, ◌<◌, ◌≤◌, ◌+◌, ◌-
 ghost use Rattle.dots_host.specs.Causes.{HasCause};
 ghost use Rattle.dots_host.specs.Runs.{Added};
 ghost use Rattle.dots_host.specs.declared.out.OwnedOut.TheVariants as owned;
-ghost use Rattle.dots_disk.specs.Becoming.{KeepsMedia};
+ghost use Rattle.dots_host.specs.Becoming.{KeepsMedia};
 ghost use Rattle.dots_settings.specs.Settings.{SettingsValue};
 ghost use Rattle.dots_settings.specs.Lookups.{role_of};
 ghost use Rattle.dots_history.specs.declared.entry.Entry.{Entry};
-ghost use Rattle.dots_laws.specs.Calm.{may_act};
+ghost use Rattle.dots_history.specs.Calm.{may_act};
 ghost use Rattle.slot_store.specs.Layout.{needed_of};
 ghost use Rattle.slot_journal.specs.DiskEntries as journal;
 ghost use Rattle.stream_table.specs.Lines.{Line, AreOf, line_of, forgotten, buffering};
@@ -16,15 +16,14 @@ ghost use Rattle.stream_table.specs.Places.{AreApart, IsAt, NowBuffers, line_at,
 ghost use Rattle.rest_answers.specs.Replies.{refusal};
 ghost use Rattle.rest_answers.specs.Turns.{caller_of, is_waiting, HasSize, reply_in, closing};
 ghost use Rattle.dots_machine.specs.Machine.{State, receiving};
-ghost use Rattle.dots_notices.specs.Notifying.{SentTo};
+ghost use Rattle.session_core.specs.Notifying.{SentTo};
 ghost use Rattle.dots_server.specs.ServerValues.{Represents, IsKept};
 ghost use Rattle.dots_server.specs.Turning.{TurnedTo, Broke};
 ghost use Rattle.dots_server.specs.Pieces.{StandsThere, CanAnswer, CanAnswerFront, having, IsAcceptedBy, IsFrontTaken, FrontBroke, IsPieceTaken, PieceTaken, PieceBroke, bytes_on};
 
 use crate::server::Server;
 use dots_data::{Desk, RestStream, caller_at, front};
-use dots_disk::Host;
-use dots_host::Out;
+use dots_host::{Host, Out};
 use dots_settings::Settings;
 use http_cut::HttpFault;
 use installed_filters::Staged;

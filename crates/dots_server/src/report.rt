@@ -1,8 +1,8 @@
 //! The report: a line for each row of a mitigation, those of access lists, and one for each sample packet.
 
 ghost use Rattle.std.specs.Prelude.{◌++◌, flat_map, map, codes, decimal};
-ghost use Rattle.filter_rows.specs.Fates.{fate_by_rows};
-ghost use Rattle.filter_rows.specs.HandedOut.{fate_of};
+ghost use Rattle.acl_lists.specs.Fates.{fate_by_rows};
+ghost use Rattle.acl_lists.specs.HandedOut.{fate_of};
 ghost use Rattle.filter_table.specs.TableRows.{row_of_scrub, row_of_acl, active_rows};
 ghost use Rattle.dots_settings.specs.Lookups.{prefixes_of};
 ghost use Rattle.dots_machine.specs.Report.{any_or, texts_of, ports_text, scrub_line, list_lines, fate_text, packet_line, packet_lines};
@@ -11,10 +11,9 @@ ghost use Rattle.dots_server.specs.Lines.{line_front, line_end, active_lists};
 
 use crate::gathering::Gatherer;
 use crate::naming::name_of;
-use acl_lists::Packet;
+use acl_lists::{Fate, Packet, ScrubRow};
 use dots_host::Sink;
 use dots_settings::Settings;
-use filter_rows::{Fate, ScrubRow};
 use filter_table::FilterTable;
 use ip_scope::{PortRange, write_prefix};
 

@@ -2,21 +2,21 @@
 
 ghost use Rattle.std.specs.Prelude.{◌≡◌, ◌≢◌, ℕ, ◌<◌, ◌≤◌, ◌⊎◌, ◌^◌, [], ◌∷◌, length, true, if◌then◌else◌, List, map, None, IfOk, IfErr, OnOk, OnErr, ⊤};
 ghost use Rattle.std.specs.Io.KnownBytes.{Appends};
-ghost use Rattle.dots_disk.specs.Becoming.{Leaves, RestsWith, KeepsMedia};
+ghost use Rattle.dots_host.specs.Becoming.{Leaves, RestsWith, KeepsMedia};
 ghost use Rattle.dots_host.specs.Acts.{IsWithin, event_of};
 ghost use Rattle.dots_host.specs.Causes.{HasCause};
 ghost use Rattle.dots_host.specs.Runs.{Added};
 ghost use Rattle.dots_host.specs.Writing.{AppendsBeginning};
 ghost use Rattle.dots_settings.specs.Settings.{SettingsValue};
 ghost use Rattle.dots_history.specs.declared.entry.Entry.{Entry};
-ghost use Rattle.dots_laws.specs.Fits.{is_calm};
+ghost use Rattle.dots_history.specs.Fits.{is_calm};
 ghost use Rattle.slot_store.specs.Layout.{needed_of};
 ghost use Rattle.slot_store.specs.Opening.{Is};
 ghost use Rattle.slot_store.specs.Gates.{Sees};
 ghost use Rattle.slot_journal.specs.Sizes.{slots_of};
 ghost use Rattle.slot_journal.specs.DiskEntries.{HasEntries};
 ghost use Rattle.slot_journal.specs.DiskEntries as journal;
-ghost use Rattle.slot_journal.specs.Refused.{Caused};
+ghost use Rattle.slot_journal.specs.Refused.{Caused, IsNoSize, IsSmallBy};
 ghost use Rattle.slot_journal.specs.declared.fault.JournalFault.TheVariants as faults;
 ghost use Rattle.slot_journal.specs.Untaken.{RefusesLedger, IsFailure};
 ghost use Rattle.dots_machine.specs.Machine.{State, begun_from, later, restarted, sends_of, after, with_entry, beating, Hears};
@@ -24,10 +24,10 @@ ghost use Rattle.dots_machine.specs.Report.{report_of};
 ghost use Rattle.dots_registry.specs.RegistryValues.{time_of};
 ghost use Rattle.dots_registry.specs.ObserverViews.{views_of};
 ghost use Rattle.session_core.specs.Contacts.{heard_from, unheard, number_of};
-ghost use Rattle.dots_notices.specs.Beats.{beats};
-ghost use Rattle.dots_notices.specs.Notifying.{SentTo, IsKnown, OnlyUnheardAreDue};
+ghost use Rattle.session_core.specs.Beats.{beats};
+ghost use Rattle.session_core.specs.Notifying.{SentTo, IsKnown, OnlyUnheardAreDue};
 ghost use Rattle.dots_server.specs.ServerValues.{observers_of, Represents, IsKept, IsAcceptable, CanCarryOut, IsAccepted};
-ghost use Rattle.dots_server.specs.Sessions.{beaten};
+ghost use Rattle.dots_server.specs.HearingPeers.{beaten};
 ghost use Rattle.dots_server.specs.Taking.{Took, BrokeOff, Answered, Failing, DatagramTaken, DatagramBroke};
 ghost use Rattle.dots_server.specs.Asking.{IsCome};
 ghost use Rattle.dots_server.specs.Turning.{IsServed, TurnedTo, Wrote, Broke};
@@ -40,17 +40,14 @@ use crate::report::{put_packets, put_rows};
 use crate::verdict::Verdict;
 use coap_observe::{DueAmong, Observers};
 use dots_data::RestStream;
-use dots_disk::Host;
-use dots_host::{Got, Sink, What};
-use dots_ledger::Ledger;
+use dots_host::{Got, Host, Sink, What};
 use dots_lists::NoMemory;
-use dots_notices::{Watch, beat, send_to};
-use dots_registry::Registry;
+use dots_registry::{Ledger, Registry};
 use dots_settings::Settings;
 use http_cut::HeadRoom;
 use installed_filters::Staged;
-use json_room::JsonRoom;
-use session_core::Sessions;
+use list_json::JsonRoom;
+use session_core::{Sessions, Watch, beat, send_to};
 use slot_journal::{DiskFault, JournalFault};
 use std::alloc::Global;
 use std::marker::Model;
@@ -111,6 +108,8 @@ impl Server {
         ensures settings { IfOk result (λ server. server.settings ≡ settings) }
         ensures size { OnOk result (needed_of (slots_of settings) ≤ H.extent host.new) }
         ensures refused { IfErr result (λ fault. (seen : ℕ → ℕ) → Sees (H.media host.old) seen → RefusesLedger settings (H.extent host.old) seen (H.media host.new) fault) }
+        // A disk whose content isn't told is too small for the same cause.
+        ensures small { IfErr result (IsSmallBy settings (H.extent host.old)) }
         // A disk that held entries, with nothing pending, holds them at each moment; another stays as it was, where no call of it failed.
         ensures moments { (seen : ℕ → ℕ) (entries : List Entry) → RestsWith (H.media host.old) (Is seen) → HasEntries settings seen entries
             → Leaves (H.media host.old) (H.media host.new) (λ image. HasEntries settings image entries) }
@@ -155,6 +154,8 @@ impl Server {
         // What a server left is found again: there may be no memory, or the disk may fail, and else nothing is refused.
         ensures found { IfErr result (λ fault. (settings : SettingsValue) (state : State) (entries : List Entry) → IsKept self settings state entries
             → RestsWith (H.media host.old) (journal.Represents self.journal settings entries) → needed_of (slots_of settings) ≤ H.extent host.old → IsFailure fault) }
+        // A disk of the size that the settings need isn't too small, whatever it tells.
+        ensures sized { IfErr result (λ fault. needed_of self.journal.slots ≤ H.extent host.old → IsNoSize fault) }
         ensures extent { H.extent host.new ≡ H.extent host.old }
         ensures cause { Caused (H.Disk.faults host.old) (H.Disk.faults host.new) result }
         ensures beside { H.Disk.beside host.old host.new }

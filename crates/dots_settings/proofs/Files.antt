@@ -50,14 +50,14 @@ refusal_of_file file (fault.Capacity n) refused = fault_of_file file _ refused
 refusal_of_file file fault.ReadFault refused = tt
 refusal_of_file file fault.NoMemory refused = tt
 
-pub told_settings : (left : Option (List ℕ)) (bytes : List ℕ) (result : Result SettingsValue SettingsFault) → IfSome left (λ file. bytes ≡ take (2 ^ 16 + 1) file) → IfOk result (SettingsAre bytes)
+pub read_settings_are : (left : Option (List ℕ)) (bytes : List ℕ) (result : Result SettingsValue SettingsFault) → IfSome left (λ file. bytes ≡ take (2 ^ 16 + 1) file) → IfOk result (SettingsAre bytes)
     → IfOk result (λ settings. IfSome left (λ file. SettingsAre file settings))
-told_settings left bytes (Err why) read are = tt
-told_settings None bytes (Ok settings) read are = tt
-told_settings (Some file) bytes (Ok settings) read are = settings_of_file file settings (subst (λ (xs : List ℕ). SettingsAre xs settings) read are)
+read_settings_are left bytes (Err why) read are = tt
+read_settings_are None bytes (Ok settings) read are = tt
+read_settings_are (Some file) bytes (Ok settings) read are = settings_of_file file settings (subst (λ (xs : List ℕ). SettingsAre xs settings) read are)
 
-pub told_fault : (left : Option (List ℕ)) (bytes : List ℕ) (result : Result SettingsValue SettingsFault) → IfSome left (λ file. bytes ≡ take (2 ^ 16 + 1) file) → IfErr result (IsRefused bytes)
+pub read_fault_is : (left : Option (List ℕ)) (bytes : List ℕ) (result : Result SettingsValue SettingsFault) → IfSome left (λ file. bytes ≡ take (2 ^ 16 + 1) file) → IfErr result (IsRefused bytes)
     → IfErr result (λ why. IfSome left (λ file. IsRefused file why))
-told_fault left bytes (Ok settings) read refused = tt
-told_fault None bytes (Err why) read refused = tt
-told_fault (Some file) bytes (Err why) read refused = refusal_of_file file why (subst (λ (xs : List ℕ). IsRefused xs why) read refused)
+read_fault_is left bytes (Ok settings) read refused = tt
+read_fault_is None bytes (Err why) read refused = tt
+read_fault_is (Some file) bytes (Err why) read refused = refusal_of_file file why (subst (λ (xs : List ℕ). IsRefused xs why) read refused)

@@ -4,7 +4,7 @@ use Rattle.std.specs.Prelude.{⊤, ◌&&◌, nat_le, bytes_eq, decimal}
 use Rattle.std.specs.Str.Parse.{digits_value}
 use Rattle.std.proofs.lemmas.Bool.{and_parts, leb-true}
 use Rattle.std.proofs.NetLemmas.Options.{cond_some}
-use Rattle.plain_text.specs.Numbers.{number_in, is_number_in}
+use Rattle.dots_lists.specs.Numbers.{number_in, is_number_in}
 use Rattle.dots_lists.specs.Name.{is_name}
 use Rattle.ip_scope.specs.PrefixReader.{prefix_in}
 use Rattle.acl_lists.specs.declared.packet.Packet.{Packet}

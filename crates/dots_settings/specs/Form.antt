@@ -2,7 +2,7 @@
 use Rattle.std.specs.Prelude.{◌≡◌, ℕ, Bool, true, false, not, ◌==◌, ◌&&◌, ◌||◌, nat_le, if◌then◌else◌, List, [], ◌∷◌, length, codes, bytes_eq, Option, Some, None, Result, Ok, Err}
 use Rattle.std.specs.Char.{is_ascii_digit}
 use Rattle.std.specs.List.{list_all}
-use Rattle.plain_text.specs.Numbers.{number_in}
+use Rattle.dots_lists.specs.Numbers.{number_in}
 use Rattle.dots_lists.specs.Name.{is_name}
 use Rattle.ip_scope.specs.declared.family.Family.{Family}
 use Rattle.ip_scope.specs.declared.family.Family.TheVariants.{V4, V6}

@@ -1,7 +1,7 @@
 ghost use Rattle.std.specs.Prelude.{◌≡◌};
 ghost use Rattle.dots_settings.specs.Capacity.{place_of, same_capacity, greatest_of, default_of, capacity_named};
 
-use plain_text::is_word;
+use dots_lists::is_word;
 
 /// What a `capacity` line limits.
 #[derive(Clone, Copy)]

@@ -10,9 +10,8 @@ use crate::form::Form;
 use crate::mistake::Mistake;
 use crate::spelling::{granted_in, is_domain_name, is_number, prefix_mistake};
 use acl_lists::Packet;
-use dots_lists::is_name;
+use dots_lists::{is_name, is_word, number_in};
 use ip_scope::{parse_address, parse_prefix};
-use plain_text::{is_word, number_in};
 
 /// The greatest number of a peer.
 const MAX_PEER: u64 = 4_294_967_295;

@@ -10,7 +10,7 @@ use crate::draft::Draft;
 use crate::fault::SettingsFault;
 use crate::line::read_form;
 use crate::settings::Settings;
-use plain_text::{fields_of, is_skipped, split_line};
+use dots_lists::{fields_of, is_skipped, split_line};
 use sha2::{Digest, Sha256};
 use std::alloc::Global;
 

@@ -6,8 +6,8 @@ ghost use Rattle.std.specs.List.{list_all};
 ghost use Rattle.dots_settings.specs.Form.{granted_in, is_domain_byte, is_domain_name, is_number, length_mistake, prefix_mistake};
 
 use crate::mistake::Mistake;
+use dots_lists::is_word;
 use ip_scope::{Family, parse_address, split_at_last_slash};
-use plain_text::is_word;
 
 /// Whether this is 1 to 64 of `a` to `z`, `0` to `9`, `.` and `-`.
 pub fn is_domain_name(name: &[u8]) -> bool

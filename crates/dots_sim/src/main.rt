@@ -7,7 +7,7 @@ use dots_lists::NoMemory;
 use std::io::ErrorKind;
 use std::process::ExitCode;
 use std::{env, io};
-use world_run::run_world;
+use world_play::run_world;
 
 /// The exit status where no memory is found.
 const NO_MEMORY: u8 = 4;

@@ -10,11 +10,11 @@ use Rattle.dots_history.specs.declared.change.Change.TheVariants as change
 use Rattle.dots_history.specs.Entries.{is_lost}
 use Rattle.dots_history.specs.Rows.{waits}
 use Rattle.dots_history.specs.Histories.{Mitigation, live, status, mitigations, stays, held, alone}
-use Rattle.dots_laws.specs.Held.{is_lost_of}
-use Rattle.dots_laws.specs.HistoryReading.{is_waiting}
-use Rattle.dots_machine.specs.Sessions.{beating_at}
+use Rattle.dots_history.specs.Held.{is_lost_of}
+use Rattle.dots_history.specs.HistoryReading.{is_waiting}
+use Rattle.dots_machine.specs.ConfiguredPeers.{beating_at}
 use Rattle.dots_machine.specs.Signals.{own_domain, LastHeard, is_silent, is_lost_in, is_watched_in, loss_in, loss_of, history_lapsed, back_in, back_of}
-use Rattle.machine_laws.specs.Adding.{AddsBack}
+use Rattle.dots_world.specs.Adding.{AddsBack}
 use Rattle.dots_world.specs.Worlds.{Aim, mitigates, withdraws}
 use Rattle.dots_world.specs.Granted.{Carries}
 use Rattle.dots_world.proofs.Lists.{contains_first, contains_more}

@@ -11,13 +11,13 @@ use Rattle.coap_message.specs.declared.kind.Kind.TheVariants.{Con, Non, Ack, Rst
 use Rattle.coap_message.specs.Message.{CoapOption, CoapMessage, IsMessage, AreOptions, spelling}
 use Rattle.coap_message.specs.Salvage.{salvaged}
 use Rattle.coap_message.proofs.Whole.{one_message}
-use Rattle.coap_replies.specs.declared.dismissal.Dismissal.{Dismissal}
-use Rattle.coap_replies.specs.declared.dismissal.Dismissal.TheVariants as dismissal
-use Rattle.coap_replies.specs.Exchanges.{exchange_in, reply_kind, is_request, rejected, dismissed_unread}
-use Rattle.coap_replies.specs.Replies.{plain, rejection}
-use Rattle.dots_heads.specs.declared.reject.Reject.{Reject}
-use Rattle.dots_heads.specs.declared.reject.Reject.TheVariants as reject
-use Rattle.dots_heads.specs.RejectText.{reject_code, reject_text}
+use Rattle.dots_keys.specs.declared.dismissal.Dismissal.{Dismissal}
+use Rattle.dots_keys.specs.declared.dismissal.Dismissal.TheVariants as dismissal
+use Rattle.dots_keys.specs.Exchanges.{exchange_in, reply_kind, is_request, rejected, dismissed_unread}
+use Rattle.dots_keys.specs.Replies.{plain, rejection}
+use Rattle.dots_keys.specs.declared.reject.Reject.{Reject}
+use Rattle.dots_keys.specs.declared.reject.Reject.TheVariants as reject
+use Rattle.dots_keys.specs.RejectText.{reject_code, reject_text}
 use Rattle.dots_gateway.specs.declared.exchange.Exchange.{Exchange}
 use Rattle.dots_gateway.specs.declared.exchange.Waiting.{Waiting}
 use Rattle.dots_gateway.specs.declared.passed.Passed.{Passed}
@@ -30,8 +30,8 @@ use Rattle.dots_gateway.specs.Routes.{domain_for}
 use Rattle.dots_gateway.specs.Wanted.{Passage, Wanted, beat, passage, hop_in, wanted_of}
 use Rattle.cbor_profile.specs.Spelling.{Spells}
 use Rattle.reply_bodies.specs.Mitigations.{granted_tree}
-use Rattle.machine_laws.specs.Granting.{IsGrant}
-use Rattle.machine_laws.proofs.Telling.{IsQuiet, quiet, grant_says, may_grant}
+use Rattle.dots_world.specs.Granting.{IsGrant}
+use Rattle.dots_world.proofs.Telling.{IsQuiet, quiet, grant_says, may_grant}
 use Rattle.dots_world.proofs.Lists.{found_in}
 use Rattle.dots_world.proofs.Messages.{IsAnswer}
 

@@ -6,7 +6,7 @@ use Rattle.std.proofs.lemmas.Option.{same_Some}
 use Rattle.acl_lists.specs.declared.asked.Asked.{Asked}
 use Rattle.coap_message.specs.Message.{CoapMessage, IsMessage, spelling}
 use Rattle.coap_message.proofs.Whole.{one_message}
-use Rattle.dots_heads.specs.Operations.{is_client_name}
+use Rattle.dots_keys.specs.Operations.{is_client_name}
 use Rattle.dots_history.specs.declared.entry.Entry.{Entry}
 use Rattle.dots_history.specs.declared.put.Put.{Put}
 use Rattle.dots_history.specs.declared.change.Change.TheVariants as change
@@ -18,9 +18,9 @@ use Rattle.dots_gateway.specs.Exchanges.{id_of}
 use Rattle.dots_gateway.specs.Forwarding.{forwarded}
 use Rattle.dots_gateway.specs.Gateway.{GatewayValue}
 use Rattle.dots_gateway.specs.Routes.{routes_of, domain_for}
-use Rattle.gateway_store.specs.Exchanges.{last_number}
-use Rattle.machine_laws.specs.Forwarding.{passage_for}
-use Rattle.machine_laws.specs.Granting.{IsGrant}
+use Rattle.gateway_agent.specs.Exchanges.{last_number}
+use Rattle.dots_world.specs.Forwarding.{passage_for}
+use Rattle.dots_world.specs.Granting.{IsGrant}
 use Rattle.dots_world.specs.Plans.{Party, a_client, the_gateway, the_server, PlanClient, Plan, upstream_of, asks_at, is_behind, from_server}
 use Rattle.dots_world.specs.Worlds.{Aim, mitigates, withdraws, MadeAsk, message_by, CanSay, Packet}
 use Rattle.dots_world.specs.Granted.{IsGrantedTo, IsOfAsk, HasNumber, IsExchangeOf, IsUnder, own, passed}

@@ -1,3 +1,13 @@
+pub mod Telling
+pub mod Deciding
+pub mod Adding
+pub mod Granting
+pub mod OneGrant
+pub mod Bounds
+pub mod MachineKept
+pub mod Others
+pub mod ReceivedAs
+pub mod Forwarding
 pub mod Lists
 pub mod AtOnce
 pub mod Clients
@@ -12,4 +22,4 @@ pub mod Over
 pub mod Machine
 pub mod Acts
 pub mod Once
-pub mod Repeats
+pub mod FoundEntries

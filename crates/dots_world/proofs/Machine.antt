@@ -9,9 +9,9 @@ use Rattle.coap_message.specs.declared.kind.Kind.{Kind}
 use Rattle.coap_message.specs.declared.kind.Kind.TheVariants.{Con, Non, Ack, Rst}
 use Rattle.coap_message.specs.Message.{CoapMessage, IsMessage, spelling}
 use Rattle.coap_message.proofs.Whole.{one_message}
-use Rattle.coap_replies.specs.declared.exchange.Exchange.{Exchange}
-use Rattle.coap_replies.specs.declared.dismissal.Dismissal.TheVariants as dismissal
-use Rattle.coap_replies.specs.Exchanges.{exchange_in, emptied, may_ask, is_request, rejected, dismissed}
+use Rattle.dots_keys.specs.declared.exchange.Exchange.{Exchange}
+use Rattle.dots_keys.specs.declared.dismissal.Dismissal.TheVariants as dismissal
+use Rattle.dots_keys.specs.Exchanges.{exchange_in, emptied, may_ask, is_request, rejected, dismissed}
 use Rattle.dots_host.specs.declared.event.Event.{Event}
 use Rattle.dots_host.specs.declared.event.Event.TheVariants as event
 use Rattle.dots_host.specs.declared.out.OwnedOut.{OwnedOut}
@@ -21,10 +21,10 @@ use Rattle.dots_settings.specs.declared.peer.Role.{Role}
 use Rattle.dots_settings.specs.declared.peer.Role.TheVariants as role
 use Rattle.dots_settings.specs.Settings.{SettingsValue}
 use Rattle.dots_settings.specs.Lookups.{role_of}
-use Rattle.dots_heads.specs.declared.reject.Reject.{Reject}
-use Rattle.dots_heads.specs.declared.request.MitigationPath.{MitigationPath}
-use Rattle.dots_heads.specs.Operations.{is_client_name}
-use Rattle.dots_heads.specs.Results.{missing}
+use Rattle.dots_keys.specs.declared.reject.Reject.{Reject}
+use Rattle.dots_keys.specs.declared.head_request.MitigationPath.{MitigationPath}
+use Rattle.dots_keys.specs.Operations.{is_client_name}
+use Rattle.dots_keys.specs.Results.{missing}
 use Rattle.dots_keys.specs.declared.request.Request.{Request}
 use Rattle.dots_keys.specs.declared.request.Request.TheVariants as request
 use Rattle.dots_keys.specs.declared.request.MitigationBody.{MitigationBody}
@@ -42,23 +42,23 @@ use Rattle.dots_machine.specs.Machine.{State, later, Step}
 use Rattle.dots_machine.specs.Replies.{grant_code}
 use Rattle.dots_machine.specs.Requests.{received_as, IsReceived, unread, asks_nothing, meant}
 use Rattle.dots_machine.proofs.Hearing.{tick_history}
-use Rattle.machine_laws.specs.Adding.{CarriesPut, CarriesWithdrawal, CarriesRequest, AddsWhatIsAsked}
-use Rattle.machine_laws.specs.Adding as adding
-use Rattle.machine_laws.specs.Forwarding.{passage_for}
-use Rattle.machine_laws.specs.Granting.{IsGrant}
-use Rattle.machine_laws.specs.Reading.{IsReadAs}
-use Rattle.machine_laws.proofs.Adding.{step_adds}
-use Rattle.machine_laws.proofs.Forwarding.{asking_forwarded, withdrawing_forwarded}
-use Rattle.machine_laws.proofs.Granting.{step_grants}
-use Rattle.machine_laws.proofs.Kept.{kept_grant}
-use Rattle.machine_laws.proofs.Others.{step_grants_none}
-use Rattle.machine_laws.proofs.Reading.{asking_read, withdrawing_read}
-use Rattle.machine_laws.proofs.Telling.{Says, quiet, plain_message, body_message, grant_says}
+use Rattle.dots_world.specs.Adding.{CarriesPut, CarriesWithdrawal, CarriesRequest, AddsWhatIsAsked}
+use Rattle.dots_world.specs.Adding as adding
+use Rattle.dots_world.specs.Forwarding.{passage_for}
+use Rattle.dots_world.specs.Granting.{IsGrant}
+use Rattle.dots_world.specs.ReceivedAs.{IsReadAs}
+use Rattle.dots_world.proofs.Adding.{step_adds}
+use Rattle.dots_world.proofs.Forwarding.{asking_forwarded, withdrawing_forwarded}
+use Rattle.dots_world.proofs.Granting.{step_grants}
+use Rattle.dots_world.proofs.MachineKept.{kept_grant}
+use Rattle.dots_world.proofs.Others.{step_grants_none}
+use Rattle.dots_world.proofs.ReceivedAs.{asking_read, withdrawing_read}
+use Rattle.dots_world.proofs.Telling.{Says, quiet, plain_message, body_message, grant_says}
 use Rattle.dots_world.specs.Plans.{Plan, IsPlan, named_domain}
 use Rattle.dots_world.specs.Worlds.{Aim, mitigates, withdraws, message_with, CanSay}
 use Rattle.dots_world.proofs.Kept.{Answered}
 use Rattle.dots_lists.specs.Name.{is_name}
-use Rattle.dots_heads.specs.declared.reject.Reject.TheVariants as reject
+use Rattle.dots_keys.specs.declared.reject.Reject.TheVariants as reject
 use Rattle.dots_world.proofs.Messages.{written}
 use Rattle.dots_world.proofs.Slashes.{slash_head, head_refused}
 use Rattle.dots_world.proofs.Serving.{AddsOne, IsEntryOf, IsServing}

@@ -11,14 +11,14 @@ use Rattle.acl_lists.specs.declared.asked.Asked.{Asked}
 use Rattle.coap_message.specs.declared.kind.Kind.TheVariants.{Non}
 use Rattle.coap_message.specs.Message.{CoapMessage, IsMessage, spelling}
 use Rattle.coap_message.proofs.Whole.{one_message}
-use Rattle.coap_replies.specs.Exchanges.{is_request}
+use Rattle.dots_keys.specs.Exchanges.{is_request}
 use Rattle.dots_lists.specs.Name.{is_name}
-use Rattle.agent_messages.specs.Requests.{asking, withdrawing}
+use Rattle.dots_client.specs.Requests.{asking, withdrawing}
 use Rattle.dots_client.specs.declared.heard.Heard.{Heard}
 use Rattle.dots_client.specs.declared.heard.Heard.TheVariants as heard
 use Rattle.dots_client.specs.Client.{ClientValue}
 use Rattle.dots_client.specs.Receiving.{Receives, is_spent_hop, beat_code, beat_answer}
-use Rattle.dots_heads.specs.Options.{value_of}
+use Rattle.dots_keys.specs.Options.{value_of}
 use Rattle.dots_world.specs.Worlds.{Aim, mitigates, withdraws, message_with, answers_to}
 use Rattle.dots_world.proofs.Lists.{not_in_none, contains_cases}
 

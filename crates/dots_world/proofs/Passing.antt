@@ -10,11 +10,11 @@ use Rattle.coap_message.specs.declared.kind.Kind.{Kind}
 use Rattle.coap_message.specs.declared.kind.Kind.TheVariants.{Con, Non, Ack, Rst}
 use Rattle.coap_message.specs.Message.{CoapMessage, IsMessage, spelling}
 use Rattle.coap_message.proofs.Whole.{one_message}
-use Rattle.coap_replies.specs.Exchanges.{exchange_in, reply_kind}
-use Rattle.coap_replies.specs.Replies.{plain}
+use Rattle.dots_keys.specs.Exchanges.{exchange_in, reply_kind}
+use Rattle.dots_keys.specs.Replies.{plain}
 use Rattle.dots_host.specs.declared.out.OwnedOut.{OwnedOut}
 use Rattle.dots_host.specs.declared.out.OwnedOut.TheVariants as owned
-use Rattle.dots_heads.specs.Operations.{is_client_name}
+use Rattle.dots_keys.specs.Operations.{is_client_name}
 use Rattle.dots_history.specs.declared.entry.Entry.{Entry}
 use Rattle.dots_gateway.specs.declared.exchange.Exchange.{Exchange}
 use Rattle.dots_gateway.specs.declared.exchange.Waiting.{Waiting}
@@ -27,13 +27,13 @@ use Rattle.dots_gateway.specs.Forwarding.{forwarded}
 use Rattle.dots_gateway.specs.Gateway.{GatewayValue, Said, gateway_at, UpOrLacks, DownOrLacks, came_again, same_message}
 use Rattle.dots_gateway.specs.Routes.{routes_of, domain_for}
 use Rattle.dots_gateway.specs.Wanted.{Passage, Wanted, passage, wanted_of}
-use Rattle.gateway_store.specs.Exchanges.{number_or, last_number, is_young}
+use Rattle.gateway_agent.specs.Exchanges.{number_or, last_number, is_young}
 use Rattle.gateway_agent.specs.Passing.{GatewayState, Refuses, answered as says_so, silent as says_nothing, UpSends, sends_of, fresh_in, restarted, time_from, full_text}
-use Rattle.machine_laws.specs.Forwarding.{passage_for}
-use Rattle.machine_laws.specs.Granting.{IsGrant}
-use Rattle.machine_laws.proofs.Telling.{IsQuiet, quiet, grant_says, may_grant}
-use Rattle.dots_heads.specs.declared.reject.Reject.{Reject}
-use Rattle.machine_laws.proofs.Forwarding.{asking_passes, withdrawing_passes}
+use Rattle.dots_world.specs.Forwarding.{passage_for}
+use Rattle.dots_world.specs.Granting.{IsGrant}
+use Rattle.dots_world.proofs.Telling.{IsQuiet, quiet, grant_says, may_grant}
+use Rattle.dots_keys.specs.declared.reject.Reject.{Reject}
+use Rattle.dots_world.proofs.Forwarding.{asking_passes, withdrawing_passes}
 use Rattle.dots_world.specs.Plans.{a_client, the_gateway, the_server, PlanClient, Plan, IsPlan, upstream_of, is_behind, from_gateway}
 use Rattle.dots_world.specs.Worlds.{Aim, mitigates, withdraws, MadeAsk, message_with, message_by, Packet, packet_passed}
 use Rattle.dots_world.specs.Granted.{IsExchangeOf}

@@ -13,7 +13,7 @@ use Rattle.dots_history.specs.declared.change.Change.TheVariants as change
 use Rattle.dots_client.specs.declared.granted.Granted.{Granted}
 use Rattle.dots_client.specs.Client.{ClientValue}
 use Rattle.dots_gateway.specs.declared.exchange.Exchange.{Exchange}
-use Rattle.machine_laws.specs.Granting.{IsGrant}
+use Rattle.dots_world.specs.Granting.{IsGrant}
 use Rattle.dots_world.specs.Plans.{Party, a_client, the_gateway, the_server, PlanClient, Plan, IsPlan, asks_at, is_direct, is_behind, from_server}
 use Rattle.dots_world.specs.Worlds.{Aim, mitigates, withdraws, MadeAsk}
 use Rattle.dots_world.specs.Granted.{Carries, IsUnder, own, passed}

@@ -4,7 +4,7 @@ use Rattle.std.proofs.Common.{◌≡◌, ◌⊎◌, inl, inr, ℕ, ℤ, ◌<◌,
 use Rattle.std.proofs.lemmas.Option.{same_Some, none-some}
 use Rattle.std.proofs.lemmas.List.Elements.{Contains-append_left}
 use Rattle.coap_message.specs.Message.{CoapMessage, IsMessage, spelling}
-use Rattle.coap_replies.specs.Exchanges.{is_request}
+use Rattle.dots_keys.specs.Exchanges.{is_request}
 use Rattle.dots_host.specs.declared.event.Event.{Event}
 use Rattle.dots_host.specs.declared.event.Event.TheVariants as event
 use Rattle.dots_host.specs.declared.out.OwnedOut.{OwnedOut}
@@ -13,13 +13,13 @@ use Rattle.dots_host.specs.Runs.{outs_of}
 use Rattle.dots_settings.specs.declared.peer.Role.TheVariants as role
 use Rattle.dots_settings.specs.Lookups.{role_of}
 use Rattle.dots_lists.specs.Name.{is_name}
-use Rattle.dots_heads.specs.Operations.{is_client_name}
+use Rattle.dots_keys.specs.Operations.{is_client_name}
 use Rattle.dots_history.specs.declared.entry.Entry.{Entry}
 use Rattle.dots_gateway.specs.declared.exchange.Exchange.{Exchange}
 use Rattle.dots_gateway.specs.Forwarding.{forwarded}
 use Rattle.dots_machine.specs.Answering.{AreBytes}
-use Rattle.machine_laws.specs.Forwarding.{passage_for}
-use Rattle.machine_laws.specs.Granting.{IsGrant}
+use Rattle.dots_world.specs.Forwarding.{passage_for}
+use Rattle.dots_world.specs.Granting.{IsGrant}
 use Rattle.dots_world.specs.Plans.{Party, a_client, the_gateway, the_server, PlanClient, Plan, IsPlan, named_domain, to_server, direct, through}
 use Rattle.dots_world.specs.Worlds.{Aim, MadeAsk, message_with, message_by, CanSay, Packet, World, packet_from, served}
 use Rattle.dots_world.specs.Granted.{Carries, HasNumber, own, passed}

@@ -5,19 +5,19 @@ use Rattle.std.specs.List.{AllByRecursion}
 use Rattle.std.proofs.lemmas.Bool.{cond-false, le-leb}
 use Rattle.coap_message.specs.Message.{CoapOption, CoapMessage, IsMessage, spelling}
 use Rattle.coap_message.proofs.Whole.{one_message}
-use Rattle.coap_replies.specs.declared.exchange.Exchange.{Exchange}
-use Rattle.coap_replies.specs.Exchanges.{exchange_in}
-use Rattle.coap_replies.specs.Replies.{dots_cbor}
+use Rattle.dots_keys.specs.declared.exchange.Exchange.{Exchange}
+use Rattle.dots_keys.specs.Exchanges.{exchange_in}
+use Rattle.dots_keys.specs.Replies.{dots_cbor}
 use Rattle.dots_lists.specs.Name.{is_name}
-use Rattle.dots_heads.specs.declared.reject.Reject.{Reject}
-use Rattle.dots_heads.specs.declared.reject.Reject.TheVariants as reject
-use Rattle.dots_heads.specs.Heads.{head_of}
-use Rattle.dots_heads.specs.Operations.{is_client_name, client_name}
-use Rattle.dots_heads.specs.Options.{first_critical, has_length}
-use Rattle.dots_heads.specs.Paths.{mitigation, path_of}
+use Rattle.dots_keys.specs.declared.reject.Reject.{Reject}
+use Rattle.dots_keys.specs.declared.reject.Reject.TheVariants as reject
+use Rattle.dots_keys.specs.Heads.{head_of}
+use Rattle.dots_keys.specs.Operations.{is_client_name, client_name}
+use Rattle.dots_keys.specs.Options.{first_critical, has_length}
+use Rattle.dots_keys.specs.Paths.{mitigation, path_of}
 use Rattle.dots_keys.specs.declared.request.Request.{Request}
 use Rattle.dots_keys.specs.Meaning.{ReadsAs, Means}
-use Rattle.agent_messages.specs.Requests.{uri_path}
+use Rattle.dots_client.specs.Requests.{uri_path}
 use Rattle.dots_gateway.specs.Wanted.{wanted_of}
 use Rattle.dots_machine.specs.declared.received.Received.TheVariants as received
 use Rattle.dots_machine.specs.Requests.{received_as, IsReceived, unread, asks_nothing, meant}

@@ -9,14 +9,14 @@ use Rattle.dots_settings.specs.Lookups.{role_of}
 use Rattle.dots_history.specs.declared.entry.Entry.{Entry}
 use Rattle.dots_gateway.specs.declared.exchange.Exchange.{Exchange}
 use Rattle.dots_gateway.specs.Forwarding.{forwarded}
-use Rattle.coap_replies.specs.declared.exchange.Exchange as machine
+use Rattle.dots_keys.specs.declared.exchange.Exchange as machine
 use Rattle.dots_machine.specs.declared.received.Received.TheVariants as received
 use Rattle.dots_machine.specs.Apart.{domain_of}
 use Rattle.dots_machine.specs.Domains.{is_gateway}
 use Rattle.dots_machine.specs.Machine.{State, later}
 use Rattle.dots_machine.specs.MessageRepeats.{sent_for, IsRepeatOf}
 use Rattle.dots_machine.specs.Requests.{IsReceived}
-use Rattle.machine_laws.specs.Forwarding.{passage_for}
+use Rattle.dots_world.specs.Forwarding.{passage_for}
 use Rattle.dots_world.specs.Plans.{Party, a_client, the_gateway, the_server, PlanClient, Plan, to_server}
 use Rattle.dots_world.specs.Worlds.{MadeAsk, message_by, Packet, World, WorldEvent, delivers, Happens}
 use Rattle.dots_world.specs.Granted.{IsExchangeOf, IsUnder}

@@ -4,7 +4,7 @@ use Rattle.dots_lists.specs.Name.{is_name}
 use Rattle.dots_settings.specs.declared.peer.Role.TheVariants as role
 use Rattle.dots_settings.specs.Settings.{SettingsValue, IsSettings}
 use Rattle.dots_settings.specs.Lookups.{role_of}
-use Rattle.dots_heads.specs.Operations.{is_client_name}
+use Rattle.dots_keys.specs.Operations.{is_client_name}
 use Rattle.dots_gateway.specs.Routes.{routes_of, domain_for}
 pub use Rattle.dots_world.specs.declared.party.Party.{Party}
 pub use Rattle.dots_world.specs.declared.party.Party.TheVariants.{Client as a_client, Gateway as the_gateway, Server as the_server}

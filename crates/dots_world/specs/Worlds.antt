@@ -11,9 +11,9 @@ use Rattle.dots_host.specs.declared.out.OwnedOut.TheVariants as owned
 use Rattle.dots_host.specs.Acts.{WireAct, took, gave}
 use Rattle.dots_host.specs.Runs.{outs_of}
 use Rattle.reply_bodies.specs.Requests.{request_tree}
-use Rattle.agent_messages.specs.Asked.{CanAsk}
-use Rattle.agent_messages.specs.Grants.{IsGranted}
-use Rattle.agent_messages.specs.Requests.{asking, withdrawing}
+use Rattle.dots_client.specs.Asked.{CanAsk}
+use Rattle.dots_client.specs.Grants.{IsGranted}
+use Rattle.dots_client.specs.Requests.{asking, withdrawing}
 use Rattle.dots_client.specs.declared.ask.Ask.{Ask}
 use Rattle.dots_client.specs.declared.ask.Ask.TheVariants as ask
 use Rattle.dots_client.specs.declared.heard.Heard.{Heard}

@@ -6,14 +6,14 @@ use Rattle.ip_scope.specs.declared.family.Family.TheVariants.{V4, V6}
 use Rattle.ip_scope.specs.Family.{width}
 use Rattle.ip_scope.specs.Prefix.{PrefixValue, IsPrefix, holds}
 use Rattle.acl_lists.specs.declared.packet.Packet.{Packet}
-use Rattle.filter_rows.specs.declared.rows.ScrubRow.{ScrubRow}
-use Rattle.filter_rows.specs.Matching.{has_protocol, has_port, is_scrubbed}
-use Rattle.filter_rows.specs.Fates.{scrubs, greatest, greatest_from, scrubbing_mid}
-use Rattle.prefix_ranks.specs.declared.rank.Rank.{Rank}
-use Rattle.prefix_ranks.specs.Ranks.{kind_of, ranked, place_of, slot_of}
-use Rattle.prefix_ranks.specs.Covers.{covers, IsShort}
-use Rattle.prefix_ranks.proofs.Each.{each_insert, each_map, each_weaker}
-use Rattle.prefix_ranks.proofs.Covered.{cover_by}
+use Rattle.acl_lists.specs.declared.rows.ScrubRow.{ScrubRow}
+use Rattle.acl_lists.specs.RowMatching.{has_protocol, has_port, is_scrubbed}
+use Rattle.acl_lists.specs.Fates.{scrubs, greatest, greatest_from, scrubbing_mid}
+use Rattle.filter_table.specs.declared.rank.Rank.{Rank}
+use Rattle.filter_table.specs.Ranks.{kind_of, ranked, place_of, slot_of}
+use Rattle.filter_table.specs.Covers.{covers, IsShort}
+use Rattle.filter_table.proofs.Each.{each_insert, each_map, each_weaker}
+use Rattle.filter_table.proofs.Covered.{cover_by}
 use Rattle.filter_table.specs.TableRows.{PlacedScrub, rank_of, row_of_scrub}
 use Rattle.filter_table.specs.Rows.{in_slot}
 use Rattle.filter_table.specs.Best.{greater_of, best, mid_of, mid_in}

@@ -1,12 +1,12 @@
 -- Rows of a mitigation that stand together, taken out at once.
 use Rattle.std.proofs.Common.{◌≡◌, ℕ, ◌+◌, ◌-◌, ◌<◌, ◌≤◌, Bool, true, false, not, cond, ◌&&◌, nat_le, nat_lt, List, [], ◌∷◌, ◌++◌, map, length, get_or, take, drop, set, zero, suc, refl, sym, ap, subst, ◌∙◌, arith, one-add, append_assoc, append-nil, length-append, Option, Some, None}
 use Rattle.std.specs.List.{remove, filter, prefix_len, list_all, AllByRecursion}
-use Rattle.filter_rows.specs.declared.rows.ScrubRow.{ScrubRow}
-use Rattle.prefix_ranks.specs.declared.rank.Rank.{Rank}
-use Rattle.prefix_ranks.specs.Ranks.{RankingValue, ranked, place_of}
-use Rattle.prefix_ranks.specs.Sifting.{is_between, is_outside}
-use Rattle.prefix_ranks.proofs.Each.{each_at, each_weaker}
-use Rattle.prefix_ranks.proofs.Sifted.{filter_ranked}
+use Rattle.acl_lists.specs.declared.rows.ScrubRow.{ScrubRow}
+use Rattle.filter_table.specs.declared.rank.Rank.{Rank}
+use Rattle.filter_table.specs.Ranks.{RankingValue, ranked, place_of}
+use Rattle.filter_table.specs.Sifting.{is_between, is_outside}
+use Rattle.filter_table.proofs.Each.{each_at, each_weaker}
+use Rattle.filter_table.proofs.Sifted.{filter_ranked}
 use Rattle.filter_table.specs.declared.turn.Turn.{Turn}
 use Rattle.filter_table.specs.TableRows.{PlacedScrub, rank_of, is_of, row_is_of, without_mitigation}
 use Rattle.filter_table.specs.Laws.{AreInOrder}

@@ -3,10 +3,10 @@ use Rattle.std.proofs.Common.{◌≡◌, ℕ, ◌+◌, ◌<◌, ◌≤◌, Bool,
 use Rattle.std.specs.Prelude.{bytes_eq}
 use Rattle.std.specs.Option.{IfSome, IfNone}
 use Rattle.std.specs.List.{insert, remove, find, prefix_len, position, position_or_len, AllByRecursion}
-use Rattle.filter_rows.specs.declared.rows.ScrubRow.{ScrubRow}
-use Rattle.prefix_ranks.specs.declared.rank.Rank.{Rank}
-use Rattle.prefix_ranks.specs.Ranks.{ranked, place_of, is_of_kind, is_of_number}
-use Rattle.prefix_ranks.proofs.Each.{each_insert, each_map, each_both, each_weaker}
+use Rattle.acl_lists.specs.declared.rows.ScrubRow.{ScrubRow}
+use Rattle.filter_table.specs.declared.rank.Rank.{Rank}
+use Rattle.filter_table.specs.Ranks.{ranked, place_of, is_of_kind, is_of_number}
+use Rattle.filter_table.proofs.Each.{each_insert, each_map, each_both, each_weaker}
 use Rattle.filter_table.specs.declared.turn.Turn.{Turn}
 use Rattle.filter_table.specs.TableRows.{PlacedScrub, is_of, is_of_client, row_is_of, without_mitigation}
 use Rattle.filter_table.specs.Rows.{in_slot, gathered, passes, slot_is_of, mark_of, marks_of, is_turn, IsTied}

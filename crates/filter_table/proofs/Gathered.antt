@@ -2,12 +2,12 @@
 use Rattle.std.proofs.Common.{◌≡◌, ℕ, ◌+◌, ◌<◌, ◌≤◌, Bool, true, false, not, cond, ◌&&◌, ◌==◌, nat_le, nat_lt, List, [], ◌∷◌, map, length, length-set, get_or, set, zero, suc, refl, sym, ap, subst, ◌∙◌, arith, one-add, Option, Some, None, option_map, IsSome, slice_get, eqb-true, eq-eqb, rules}
 use Rattle.std.specs.List.{insert, remove, prefix_len, AllByRecursion}
 use Rattle.ip_scope.specs.Prefix.{IsPrefix}
-use Rattle.filter_rows.specs.declared.rows.ScrubRow.{ScrubRow}
+use Rattle.acl_lists.specs.declared.rows.ScrubRow.{ScrubRow}
 use Rattle.filter_table.specs.declared.turn.Turn.{Turn}
 use Rattle.filter_table.specs.TableRows.{PlacedScrub, scrub_in, is_of, is_of_client, row_is_of, row_woken, row_set, woken, scrub_set, row_of_scrub, number_after, renumbered, renumbered_from, place_of_scrub, scrub_at_place, rank_of}
 use Rattle.filter_table.specs.Rows.{or_empty, in_slot, added, gathered, place_of_turn, turn_at_place, woken_at, woken_in, IsTied}
-use Rattle.prefix_ranks.specs.declared.rank.Rank.{Rank}
-use Rattle.prefix_ranks.proofs.Each.{each_insert, each_remove, each_both}
+use Rattle.filter_table.specs.declared.rank.Rank.{Rank}
+use Rattle.filter_table.proofs.Each.{each_insert, each_remove, each_both}
 
 abbrev pub AreTied : List (Option ScrubRow) → List Turn → Type 0
 AreTied rows turns = AllByRecursion (IsTied rows) turns

@@ -1,3 +1,13 @@
+pub mod Each
+pub mod Order
+pub mod Ranked
+pub mod Searching
+pub mod Counting
+pub mod Runs
+pub mod Covered
+pub mod BesideRanks
+pub mod Sifted
+pub mod Merged
 pub mod Orders
 pub mod Slots
 pub mod Places

@@ -4,8 +4,8 @@ use Rattle.std.specs.List.{insert, remove, prefix_len, filter, AllByRecursion}
 use Rattle.filter_table.specs.declared.placed.PlacedAcl.{PlacedAcl}
 use Rattle.filter_table.specs.TableRows.{PlacedScrub, scrub_in, is_of, scrub_set, acl_set, woken, activated, number_after, renumbered_from, renumbered, place_of_scrub, scrub_at_place}
 use Rattle.filter_table.specs.Laws.{AreInOrder, HaveTheirSlots}
-use Rattle.prefix_ranks.specs.Numbers.{Falls}
-use Rattle.prefix_ranks.proofs.Each.{each_insert, each_remove, each_weaker}
+use Rattle.filter_table.specs.Numbers.{Falls}
+use Rattle.filter_table.proofs.Each.{each_insert, each_remove, each_weaker}
 
 pub each_filter : {A : Type 0} → (P : A → Type 0) (p : A → Bool) (xs : List A) → AllByRecursion P xs → AllByRecursion P (filter p xs)
 each_filter P p [] all = all

@@ -4,11 +4,11 @@ use Rattle.std.specs.List.{insert, remove, prefix_len, AllByRecursion}
 use Rattle.std.proofs.lemmas.List.{length-map}
 use Rattle.std.proofs.lemmas.List.Sums.{prefix_len-le-length}
 use Rattle.ip_scope.specs.Prefix.{IsPrefix}
-use Rattle.filter_rows.specs.declared.rows.ScrubRow.{ScrubRow}
-use Rattle.prefix_ranks.specs.declared.rank.Rank.{Rank}
-use Rattle.prefix_ranks.specs.Ranks.{RankingValue, with_rank, place_of, ranked}
-use Rattle.prefix_ranks.proofs.Order.{commutes}
-use Rattle.prefix_ranks.proofs.Each.{each_insert, each_remove, each_take}
+use Rattle.acl_lists.specs.declared.rows.ScrubRow.{ScrubRow}
+use Rattle.filter_table.specs.declared.rank.Rank.{Rank}
+use Rattle.filter_table.specs.Ranks.{RankingValue, with_rank, place_of, ranked}
+use Rattle.filter_table.proofs.Order.{commutes}
+use Rattle.filter_table.proofs.Each.{each_insert, each_remove, each_take}
 use Rattle.filter_table.specs.declared.turn.Turn.{Turn}
 use Rattle.filter_table.specs.TableRows.{PlacedScrub, rank_of, scrub_in, with_scrub, woken, renumbered, place_of_scrub, scrub_at_place}
 use Rattle.filter_table.specs.Laws.{AreInOrder}

@@ -6,13 +6,13 @@ use Rattle.std.proofs.lemmas.Bool.{eq-eqb}
 use Rattle.std.proofs.lemmas.List.{length-map}
 use Rattle.std.proofs.lemmas.List.Sums.{sum_by-cons, prefix_len-le-length, sum_by-append, sum_by-insert, sum_by-remove}
 use Rattle.std.proofs.lemmas.List.Edits.{length-insert, length-remove}
-use Rattle.prefix_ranks.specs.declared.rank.Rank.{Rank}
-use Rattle.prefix_ranks.specs.Ranks.{RankingValue, is_before, with_rank, ranked, place_of}
+use Rattle.filter_table.specs.declared.rank.Rank.{Rank}
+use Rattle.filter_table.specs.Ranks.{RankingValue, is_before, with_rank, ranked, place_of}
 use Rattle.filter_table.specs.TableRows.{PlacedScrub, rank_of, ScrubsValue, scrub_in, with_scrub, woken, is_of, scrub_set}
 use Rattle.filter_table.specs.Rows.{mark_of}
 use Rattle.filter_table.specs.Slots.{HasEachSlot, RanksAre}
-use Rattle.prefix_ranks.proofs.Each.{map_insert, map_remove}
-use Rattle.prefix_ranks.proofs.Order.{ranked_insert, ranked_remove, taken_back}
+use Rattle.filter_table.proofs.Each.{map_insert, map_remove}
+use Rattle.filter_table.proofs.Order.{ranked_insert, ranked_remove, taken_back}
 
 abbrev once_at : ℕ → ℕ → ℕ
 once_at s slot = cond (slot == s) 1 0

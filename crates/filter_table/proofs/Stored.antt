@@ -2,11 +2,11 @@
 use Rattle.std.proofs.Common.{◌≡◌, ℕ, ◌+◌, ◌<◌, ◌≤◌, List, [], ◌∷◌, ◌++◌, length, set, refl, sym, ap, subst, ◌∙◌, arith, length-set, length-append, Option, Some}
 use Rattle.std.specs.List.{prefix_len}
 use Rattle.std.specs.Prelude.{nat_le}
-use Rattle.filter_rows.specs.declared.rows.ScrubRow.{ScrubRow}
-use Rattle.prefix_ranks.specs.declared.rank.Rank.{Rank}
-use Rattle.prefix_ranks.specs.Ranks.{RankingValue, with_rank}
-use Rattle.prefix_ranks.specs.Merging.{with_ranks}
-use Rattle.prefix_ranks.proofs.Merged.{with_nothing, length-all}
+use Rattle.acl_lists.specs.declared.rows.ScrubRow.{ScrubRow}
+use Rattle.filter_table.specs.declared.rank.Rank.{Rank}
+use Rattle.filter_table.specs.Ranks.{RankingValue, with_rank}
+use Rattle.filter_table.specs.Merging.{with_ranks}
+use Rattle.filter_table.proofs.Merged.{with_nothing, length-all}
 use Rattle.filter_table.specs.declared.turn.Turn.{Turn}
 use Rattle.filter_table.specs.TableRows.{PlacedScrub, rank_of, AreInstalled}
 use Rattle.filter_table.specs.Rows.{gathered, mark_of}

@@ -3,8 +3,8 @@ use Rattle.std.proofs.Common.{◌≡◌, ℕ, Bool, true, false, cond, ◌==◌,
 use Rattle.std.specs.List.{All}
 use Rattle.std.proofs.lemmas.List.Elements.{All-nil, All-cons, All-head, All-tail, All-append, All-take, All-drop, All-map, All-filter, All-weaker}
 use Rattle.ip_scope.specs.declared.family.Family.{Family}
-use Rattle.prefix_ranks.specs.declared.rank.Rank.{Rank}
-use Rattle.prefix_ranks.specs.Ranks.{kind_of, ranked, place_of, is_of_kind, slot_of}
+use Rattle.filter_table.specs.declared.rank.Rank.{Rank}
+use Rattle.filter_table.specs.Ranks.{kind_of, ranked, place_of, is_of_kind, slot_of}
 use Rattle.filter_table.specs.TableRows.{PlacedScrub, rank_of, scrub_in}
 use Rattle.filter_table.specs.Table.{slots_of}
 

@@ -1,8 +1,8 @@
 -- The greatest mid of the rows in some slots that scrub a packet.
 use Rattle.std.specs.Prelude.{ℕ, if◌then◌else◌, List, [], ◌∷◌, Option, Some, None}
 use Rattle.acl_lists.specs.declared.packet.Packet.{Packet}
-use Rattle.filter_rows.specs.declared.rows.ScrubRow.{ScrubRow}
-use Rattle.filter_rows.specs.Fates.{scrubs, greatest_from}
+use Rattle.acl_lists.specs.declared.rows.ScrubRow.{ScrubRow}
+use Rattle.acl_lists.specs.Fates.{scrubs, greatest_from}
 use Rattle.filter_table.specs.Rows.{in_slot}
 
 -- the greater of two, where there are two

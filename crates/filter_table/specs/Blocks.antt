@@ -1,7 +1,7 @@
 -- Rows of a mitigation that stand together, taken out at once.
 use Rattle.std.specs.Prelude.{ℕ, Bool, not, List, [], ◌∷◌, Option, None, slice_set}
-use Rattle.filter_rows.specs.declared.rows.ScrubRow.{ScrubRow}
-use Rattle.prefix_ranks.specs.Sifting.{is_between}
+use Rattle.acl_lists.specs.declared.rows.ScrubRow.{ScrubRow}
+use Rattle.filter_table.specs.Sifting.{is_between}
 use Rattle.filter_table.specs.declared.turn.Turn.{Turn}
 use Rattle.filter_table.specs.TableRows.{PlacedScrub}
 

@@ -1,3 +1,11 @@
+pub mod Ranks
+pub mod Numbers
+pub mod Levels
+pub mod RankLaws
+pub mod Covers
+pub mod Beside
+pub mod Sifting
+pub mod Merging
 pub mod TableRows
 pub mod Table
 pub mod Laws

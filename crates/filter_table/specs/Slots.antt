@@ -1,9 +1,9 @@
 -- Which slots are free, and which have a row.
 use Rattle.std.specs.Prelude.{◌≡◌, ℕ, ◌+◌, ◌==◌, nat_lt, if◌then◌else◌, List, length, map, Option}
 use Rattle.std.specs.List.{count_by, AllByRecursion}
-use Rattle.filter_rows.specs.declared.rows.ScrubRow.{ScrubRow}
-use Rattle.prefix_ranks.specs.declared.rank.Rank.{Rank}
-use Rattle.prefix_ranks.specs.Ranks.{RankingValue, ranked}
+use Rattle.acl_lists.specs.declared.rows.ScrubRow.{ScrubRow}
+use Rattle.filter_table.specs.declared.rank.Rank.{Rank}
+use Rattle.filter_table.specs.Ranks.{RankingValue, ranked}
 use Rattle.filter_table.specs.declared.turn.Turn.{Turn}
 use Rattle.filter_table.specs.TableRows.{PlacedScrub, rank_of}
 use Rattle.filter_table.specs.Laws.{AreInOrder}

@@ -2,10 +2,10 @@
 use Rattle.std.specs.Prelude.{◌≡◌, ℕ, nat_le, List, [], ◌∷◌, ◌++◌, Option, Some, slice_set}
 use Rattle.std.specs.List.{insert, prefix_len}
 use Rattle.ip_scope.specs.Prefix.{IsPrefix}
-use Rattle.filter_rows.specs.declared.rows.ScrubRow.{ScrubRow}
-use Rattle.prefix_ranks.specs.declared.rank.Rank.{Rank}
-use Rattle.prefix_ranks.specs.Ranks.{RankingValue, with_rank}
-use Rattle.prefix_ranks.specs.Merging.{with_ranks}
+use Rattle.acl_lists.specs.declared.rows.ScrubRow.{ScrubRow}
+use Rattle.filter_table.specs.declared.rank.Rank.{Rank}
+use Rattle.filter_table.specs.Ranks.{RankingValue, with_rank}
+use Rattle.filter_table.specs.Merging.{with_ranks}
 use Rattle.filter_table.specs.declared.turn.Turn.{Turn}
 use Rattle.filter_table.specs.TableRows.{PlacedScrub, rank_of, AreInstalled}
 use Rattle.filter_table.specs.Rows.{gathered, mark_of}

@@ -2,7 +2,7 @@
 use Rattle.std.specs.Prelude.{ℕ, List, map, filter}
 use Rattle.ip_scope.specs.declared.family.Family.{Family}
 use Rattle.filter_table.specs.declared.placed.PlacedAcl.{PlacedAcl}
-use Rattle.prefix_ranks.specs.Ranks.{kind_of, ranked, is_of_kind, slot_of}
+use Rattle.filter_table.specs.Ranks.{kind_of, ranked, is_of_kind, slot_of}
 use Rattle.filter_table.specs.TableRows.{PlacedScrub, rank_of}
 
 -- the rows of mitigations and those of access lists, each in order of place, and how many of each there may be

@@ -5,9 +5,8 @@ ghost use Rattle.std.specs.List.{prefix_len};
 ghost use Rattle.filter_table.specs.TableRows.{AclsValue, with_acl, is_named, without_acl, activated, waits, renumbered, acl_at_place, place_of_acl};
 
 use crate::placed::{PlacedAcl, is_of_client, number_after};
-use acl_lists::Activation;
+use acl_lists::{AclRow, Activation};
 use dots_lists::NoMemory;
-use filter_rows::AclRow;
 use std::alloc::Global;
 use std::marker::Model;
 

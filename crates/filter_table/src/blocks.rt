@@ -5,10 +5,10 @@ ghost use Rattle.std.specs.List.{list_all, AllByRecursion};
 ghost use Rattle.filter_table.specs.Rows.{slot_is_of};
 ghost use Rattle.filter_table.specs.Blocks.{emptied, slot_of_turn};
 
+use crate::rank::Rank;
 use crate::slot_rows::{empty_slot, is_in_slot};
 use crate::turn::Turn;
-use filter_rows::ScrubRow;
-use prefix_ranks::Rank;
+use acl_lists::ScrubRow;
 
 /// The places of the first and of the last of these marks.
 pub fn ends_of(marks: &[Rank]) -> Option<(u64, u64)> {

@@ -1,16 +1,15 @@
 //! What becomes of a packet by the rows that a table holds.
 
 ghost use Rattle.std.specs.Prelude.{◌≡◌, map, option_map};
-ghost use Rattle.filter_rows.specs.Fates.{decision_of_row, decision_of_rows, fate_by_rows};
-ghost use Rattle.filter_rows.specs.HandedOut.{fate_of};
+ghost use Rattle.acl_lists.specs.Fates.{decision_of_row, decision_of_rows, fate_by_rows};
+ghost use Rattle.acl_lists.specs.HandedOut.{fate_of};
 ghost use Rattle.filter_table.specs.TableRows.{row_of_scrub, row_of_acl};
 ghost use Rattle.dots_settings.specs.Lookups.{prefixes_of};
 
 use crate::placed::PlacedAcl;
 use crate::scrubs::Scrubs;
-use acl_lists::Packet;
+use acl_lists::{AclRow, Fate, Packet, decision};
 use dots_settings::Settings;
-use filter_rows::{AclRow, Fate, decision};
 use ip_scope::Prefix;
 
 /// What the first matching entry of the active access lists says; else the packet is scrubbed for the greatest mid of the active

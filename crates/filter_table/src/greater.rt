@@ -1,13 +1,12 @@
 //! The greatest mid of some rows that scrub a packet.
 
 ghost use Rattle.std.specs.Prelude.{◌≡◌};
-ghost use Rattle.filter_rows.specs.Fates.{scrubs};
+ghost use Rattle.acl_lists.specs.Fates.{scrubs};
 ghost use Rattle.filter_table.specs.Best.{best, greater_of, mid_in};
 
+use crate::covering::Covering;
 use crate::slot_rows::row_in;
-use acl_lists::Packet;
-use filter_rows::{ScrubRow, greatest_from, is_scrubbed};
-use prefix_ranks::Covering;
+use acl_lists::{Packet, ScrubRow, greatest_from, is_scrubbed};
 
 /// The greatest mid of the rows in the slots to come that scrub the packet.
 pub fn greatest_covered(

@@ -4,9 +4,10 @@ ghost use Rattle.std.specs.Prelude.{◌≡◌};
 ghost use Rattle.std.specs.List.{find};
 ghost use Rattle.filter_table.specs.Rows.{mark_of, marks_of, slot_is_of, woken_in};
 
+use crate::rank::Rank;
+use crate::ranking::Ranking;
 use crate::slot_rows::{is_in_slot, wake_in_slot};
-use filter_rows::ScrubRow;
-use prefix_ranks::{Rank, Ranking};
+use acl_lists::ScrubRow;
 
 /// The mark of a row: its rank by domain and mid.
 pub fn mark_of(row: &ScrubRow, place: u64, slot: u32) -> Rank

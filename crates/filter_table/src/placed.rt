@@ -1,8 +1,8 @@
 ghost use Rattle.std.specs.Prelude.{◌≡◌, ◌<◌, ◌^◌, ◌-◌, ◌+◌};
 ghost use Rattle.filter_table.specs.TableRows.{is_of_client, number_after};
 
+use acl_lists::AclRow;
 use dots_lists::Text;
-use filter_rows::AclRow;
 
 /// The row of an access list with its place in the table.
 #[derive(Drop)]

@@ -8,7 +8,7 @@ ghost use Rattle.filter_table.specs.Rows.{gathered, active_in};
 use crate::placed::PlacedAcl;
 use crate::slot_rows::row_in;
 use crate::turn::Turn;
-use filter_rows::{AclRow, ScrubRow};
+use acl_lists::{AclRow, ScrubRow};
 use std::marker::Model;
 
 /// The active rows of mitigations that are left.
@@ -20,7 +20,7 @@ pub struct ScrubRows<'a> {
 
 impl<'a> Model for ScrubRows<'a> {
     ghost use Rattle.std.specs.Prelude.{List};
-    ghost use Rattle.filter_rows.specs.declared.rows.ScrubRow.{ScrubRow};
+    ghost use Rattle.acl_lists.specs.declared.rows.ScrubRow.{ScrubRow};
     ghost use Rattle.filter_table.specs.TableRows.{active_rows};
     ghost use Rattle.filter_table.specs.Rows.{gathered};
 
@@ -88,7 +88,7 @@ pub struct AclRows<'a> {
 
 impl<'a> Model for AclRows<'a> {
     ghost use Rattle.std.specs.Prelude.{List, map};
-    ghost use Rattle.filter_rows.specs.declared.rows.AclRow.{AclRow};
+    ghost use Rattle.acl_lists.specs.declared.rows.AclRow.{AclRow};
     ghost use Rattle.filter_table.specs.TableRows.{row_of_acl};
 
     ghost Value = { List AclRow };

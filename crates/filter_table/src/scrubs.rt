@@ -2,11 +2,11 @@
 
 ghost use Rattle.std.specs.Prelude.{◌≡◌, ℕ, ◌+◌, ◌<◌, ◌≤◌, ◌^◌, [], None, Some, true, false, map, filter, length, nat_le, nat_lt, not, option_map, IsSome, IfSome, IfNone, IfOk, vec_capacity};
 ghost use Rattle.std.specs.List.{prefix_len, position, insert, remove, AllByRecursion};
-ghost use Rattle.filter_rows.specs.Fates.{scrubbing_mid};
-ghost use Rattle.prefix_ranks.specs.Ranks.{kind_of, ranked, is_of_kind, slot_of};
+ghost use Rattle.acl_lists.specs.Fates.{scrubbing_mid};
+ghost use Rattle.filter_table.specs.Ranks.{kind_of, ranked, is_of_kind, slot_of};
 ghost use Rattle.filter_table.specs.TableRows.{ScrubsValue, scrub_in, with_scrub, AreInstalled, without_mitigation, woken, renumbered, scrub_at_place, place_of_scrub, rank_of, row_of_scrub, active_rows};
 ghost use Rattle.filter_table.specs.Laws.{AreInOrder};
-ghost use Rattle.prefix_ranks.specs.Sifting.{is_between};
+ghost use Rattle.filter_table.specs.Sifting.{is_between};
 ghost use Rattle.filter_table.specs.Blocks.{stays_outside};
 ghost use Rattle.filter_table.specs.Rows.{gathered, place_of_turn, turn_at_place, mark_of, is_turn, IsTied};
 
@@ -14,15 +14,15 @@ use crate::blocks::{are_of, cut_turns, empty_run, ends_of};
 use crate::greater::greatest_covered;
 use crate::marks::{first_of, mark_of, marks_of, wake_marked};
 use crate::placed::number_after;
+use crate::rank::{Rank, kind_of};
+use crate::ranking::Ranking;
 use crate::rows::ScrubRows;
 use crate::slot_rows::{all_slots, empty_slot, empty_slots, fill_slot, row_in};
 use crate::storing::store_all;
 use crate::turn::Turn;
-use acl_lists::Packet;
+use acl_lists::{Packet, ScrubRow};
 use dots_lists::NoMemory;
-use filter_rows::ScrubRow;
 use ip_scope::Family;
-use prefix_ranks::{Rank, Ranking, kind_of};
 use std::alloc::Global;
 use std::marker::Model;
 

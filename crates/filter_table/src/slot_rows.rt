@@ -6,8 +6,8 @@ ghost use Rattle.filter_table.specs.Rows.{in_slot, slot_is_of, woken_at};
 ghost use Rattle.filter_table.specs.Slots.{HasEachSlot};
 
 use crate::placed::is_of_client;
+use acl_lists::ScrubRow;
 use dots_lists::NoMemory;
-use filter_rows::ScrubRow;
 use std::alloc::Global;
 
 /// So many slots without rows.

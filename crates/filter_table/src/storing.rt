@@ -4,11 +4,12 @@ ghost use Rattle.std.specs.Prelude.{◌≡◌, ◌+◌, ◌<◌, ◌≤◌, ◌^
 ghost use Rattle.filter_table.specs.Storing.{AreStored, IsStored, BecomeRows};
 
 use crate::marks::mark_of;
+use crate::rank::Rank;
+use crate::ranking::Ranking;
 use crate::scrubs::{place_after, put_turn};
 use crate::slot_rows::fill_slot;
 use crate::turn::Turn;
-use filter_rows::ScrubRow;
-use prefix_ranks::{Rank, Ranking};
+use acl_lists::ScrubRow;
 
 /// Puts a row into a free slot, and its turn behind those whose place is not greater. Its rank and its mark are put among the
 /// others that come.

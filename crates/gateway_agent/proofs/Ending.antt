@@ -3,9 +3,9 @@ use Rattle.std.proofs.Common.{ℕ, inl, inr, List, ◌++◌, Option, Some, None,
 use Rattle.dots_host.specs.Acts.{Timed}
 use Rattle.dots_host.specs.Runs.{Owing, Added}
 use Rattle.dots_host.proofs.RunLemmas.{added_weaker}
-use Rattle.dots_disk.specs.Media.{Media}
-use Rattle.dots_disk.specs.Becoming.{Leaves, RestsWith}
-use Rattle.dots_disk.specs.Beside.{KeepsActs}
+use Rattle.dots_host.specs.Media.{Media}
+use Rattle.dots_host.specs.Becoming.{Leaves, RestsWith}
+use Rattle.dots_host.specs.Beside.{KeepsActs}
 use Rattle.slot_store.proofs.DiskReading.{sees_at_rest}
 use Rattle.slot_store.proofs.Steps.{leaves_as}
 use Rattle.slot_store.specs.Gates.{Sees}
@@ -15,10 +15,10 @@ use Rattle.slot_journal.specs.Sizes.{slots_of}
 use Rattle.dots_settings.specs.Settings.{SettingsValue}
 use Rattle.dots_history.specs.declared.entry.Entry.{Entry}
 use Rattle.dots_gateway.specs.declared.exchange.Exchange.{Exchange}
-use Rattle.gateway_store.specs.Crashes.{HasThe}
-use Rattle.gateway_store.specs.Exchanges.{IsStore, most_young}
-use Rattle.gateway_store.specs.Forms.{entries_of}
-use Rattle.gateway_store.specs.Stores.{IsOn}
+use Rattle.gateway_agent.specs.Crashes.{HasThe}
+use Rattle.gateway_agent.specs.Exchanges.{IsStore, most_young}
+use Rattle.gateway_agent.specs.Forms.{entries_of}
+use Rattle.gateway_agent.specs.Stores.{IsOn}
 use Rattle.std.specs.Prelude.{Err}
 use Rattle.gateway_agent.specs.declared.stopping.GatewayHalt.{GatewayHalt}
 use Rattle.gateway_agent.specs.declared.stopping.GatewayHalt.TheVariants as halt

@@ -6,11 +6,11 @@ use Rattle.coap_message.specs.declared.kind.Kind.{Kind}
 use Rattle.coap_message.specs.declared.kind.Kind.TheVariants.{Con, Non, Ack, Rst}
 use Rattle.coap_message.specs.Message.{CoapMessage, IsMessage, spelling}
 use Rattle.coap_message.specs.Salvage.{salvaged}
-use Rattle.coap_replies.specs.Exchanges.{exchange_in, is_request, rejected, dismissed_unread}
-use Rattle.coap_replies.specs.Replies.{plain}
-use Rattle.dots_heads.specs.declared.reject.Reject.{Reject}
-use Rattle.dots_heads.specs.declared.reject.Reject.TheVariants as reject
-use Rattle.dots_laws.specs.Calm.{is_http}
+use Rattle.dots_keys.specs.Exchanges.{exchange_in, is_request, rejected, dismissed_unread}
+use Rattle.dots_keys.specs.Replies.{plain}
+use Rattle.dots_keys.specs.declared.reject.Reject.{Reject}
+use Rattle.dots_keys.specs.declared.reject.Reject.TheVariants as reject
+use Rattle.dots_history.specs.Calm.{is_http}
 use Rattle.dots_gateway.specs.declared.exchange.Exchange.{Exchange}
 use Rattle.dots_gateway.specs.declared.exchange.Waiting.{Waiting}
 use Rattle.dots_gateway.specs.declared.passed.Passed.TheVariants as passed

@@ -7,12 +7,12 @@ use Rattle.dots_gateway.specs.declared.exchange.Exchange.{Exchange}
 use Rattle.dots_gateway.specs.declared.exchange.Waiting.{Waiting}
 use Rattle.dots_gateway.specs.Exchanges.{ExchangesValue, is_over, is_full, left_at, at_time, with_one, waiting_again}
 use Rattle.dots_gateway.specs.Gateway.{GatewayValue, gateway_at}
-use Rattle.gateway_store.specs.Crashes.{AreAlike}
-use Rattle.gateway_store.specs.Exchanges.{IsStore, is_young, young_at, last_time, most_young}
-use Rattle.gateway_store.specs.Stores.{StoreValue, CanKeep}
-use Rattle.gateway_store.proofs.Orders.{number_more, time_more}
-use Rattle.gateway_store.proofs.Young.{is_more, is_same, young_time, number_small}
-use Rattle.gateway_store.proofs.Keeping.{young_with}
+use Rattle.gateway_agent.specs.Crashes.{AreAlike}
+use Rattle.gateway_agent.specs.Exchanges.{IsStore, is_young, young_at, last_time, most_young}
+use Rattle.gateway_agent.specs.Stores.{StoreValue, CanKeep}
+use Rattle.gateway_agent.proofs.Orders.{number_more, time_more}
+use Rattle.gateway_agent.proofs.Young.{is_more, is_same, young_time, number_small}
+use Rattle.gateway_agent.proofs.KeepingLemmas.{young_with}
 use Rattle.gateway_agent.specs.Keeping.{AreJoined, Counts, IsOneMore, exchanges_in}
 use Rattle.gateway_agent.specs.Turning.{HasAlike}
 use Rattle.gateway_agent.proofs.Fresh.{IsFresh, fresh_key, fresh_time, fresh_number}

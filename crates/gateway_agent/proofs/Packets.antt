@@ -5,7 +5,7 @@ use Rattle.std.specs.Int.{w64, to_be_bytes, from_be_bytes}
 use Rattle.std.proofs.lemmas.Bool.{and_parts, and_from}
 use Rattle.std.proofs.lemmas.Nat.{from_be_bytes-to_be_bytes_8}
 use Rattle.coap_message.specs.Message.{CoapMessage, header, options_bytes, payload_bytes, spelling}
-use Rattle.coap_replies.specs.Exchanges.{is_request, may_ask}
+use Rattle.dots_keys.specs.Exchanges.{is_request, may_ask}
 use Rattle.gateway_agent.specs.Sent.{IsPacket}
 
 -- ---- what a datagram shows of its message

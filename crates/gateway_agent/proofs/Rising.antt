@@ -6,9 +6,9 @@ use Rattle.std.proofs.lemmas.Option.{none-some, same_Some}
 use Rattle.std.proofs.lemmas.List.{take_all, take-append-le}
 use Rattle.std.proofs.lemmas.List.Elements.{All-contains, All-contains_itself, All-filter, All-take}
 use Rattle.dots_gateway.specs.declared.exchange.Exchange.{Exchange}
-use Rattle.gateway_store.specs.Exchanges.{is_young, young_at, number_or}
-use Rattle.gateway_store.proofs.Orders.{AreOrdered}
-use Rattle.gateway_store.proofs.Young.{is_more, is_same}
+use Rattle.gateway_agent.specs.Exchanges.{is_young, young_at, number_or}
+use Rattle.gateway_agent.proofs.Orders.{AreOrdered}
+use Rattle.gateway_agent.proofs.Young.{is_more, is_same}
 
 -- ---- the elements of a list
 

@@ -8,9 +8,9 @@ use Rattle.dots_host.specs.declared.out.OwnedOut.{OwnedOut}
 use Rattle.dots_host.specs.Acts.{WireAct, took, gave, Timed, Adds, event_of}
 use Rattle.dots_host.specs.Runs.{Owing, resting, each_telling, Added, IsSend, Gives, IsNoEnd, GoOn, count_of, events_in}
 use Rattle.dots_host.proofs.RunLemmas.{added_none, added_weaker, added_then, added_by}
-use Rattle.dots_disk.specs.Media.{Media}
-use Rattle.dots_disk.specs.Becoming.{Leaves, RestsWith, KeepsMedia, IsMoment}
-use Rattle.dots_disk.specs.Beside.{KeepsActs}
+use Rattle.dots_host.specs.Media.{Media}
+use Rattle.dots_host.specs.Becoming.{Leaves, RestsWith, KeepsMedia, IsMoment}
+use Rattle.dots_host.specs.Beside.{KeepsActs}
 use Rattle.slot_store.proofs.Steps.{rests_as}
 use Rattle.slot_journal.proofs.Crashing.{represents_has}
 use Rattle.slot_journal.specs.DiskEntries.{HasEntries, Represents}
@@ -18,10 +18,10 @@ use Rattle.slot_store.specs.StoreValues.{JournalValue}
 use Rattle.dots_settings.specs.Settings.{SettingsValue}
 use Rattle.dots_history.specs.declared.entry.Entry.{Entry}
 use Rattle.dots_gateway.specs.declared.exchange.Exchange.{Exchange}
-use Rattle.gateway_store.specs.Crashes.{HasThe}
-use Rattle.gateway_store.specs.Exchanges.{IsStore, last_time}
-use Rattle.gateway_store.specs.Forms.{entries_of}
-use Rattle.gateway_store.specs.Stores.{IsOn}
+use Rattle.gateway_agent.specs.Crashes.{HasThe}
+use Rattle.gateway_agent.specs.Exchanges.{IsStore, last_time}
+use Rattle.gateway_agent.specs.Forms.{entries_of}
+use Rattle.gateway_agent.specs.Stores.{IsOn}
 use Rattle.gateway_agent.specs.declared.stopping.GatewayHalt.TheVariants as halt
 use Rattle.gateway_agent.specs.Passing.{GatewayState, Passes}
 use Rattle.gateway_agent.specs.Keeping.{AgentValue, IsIn}

@@ -7,11 +7,11 @@ use Rattle.coap_message.specs.declared.kind.Kind.{Kind}
 use Rattle.coap_message.specs.declared.kind.Kind.TheVariants.{Con, Non, Ack, Rst}
 use Rattle.coap_message.specs.Message.{CoapMessage, spelling}
 use Rattle.coap_message.specs.Salvage.{salvaged}
-use Rattle.coap_replies.specs.Exchanges.{exchange_in, reply_kind, is_request, rejected, dismissed_unread}
-use Rattle.coap_replies.specs.Replies.{plain, rejection, reset_message}
-use Rattle.dots_heads.specs.RejectText.{reject_code, reject_text}
-use Rattle.dots_heads.specs.declared.reject.Reject.{Reject}
-use Rattle.dots_heads.specs.declared.reject.Reject.TheVariants as reject
+use Rattle.dots_keys.specs.Exchanges.{exchange_in, reply_kind, is_request, rejected, dismissed_unread}
+use Rattle.dots_keys.specs.Replies.{plain, rejection, reset_message}
+use Rattle.dots_keys.specs.RejectText.{reject_code, reject_text}
+use Rattle.dots_keys.specs.declared.reject.Reject.{Reject}
+use Rattle.dots_keys.specs.declared.reject.Reject.TheVariants as reject
 use Rattle.dots_gateway.specs.declared.exchange.Waiting.{Waiting}
 use Rattle.dots_gateway.specs.declared.passed.Passed.{Passed}
 use Rattle.dots_gateway.specs.declared.passed.Passed.TheVariants as passed

@@ -10,9 +10,9 @@ use Rattle.dots_settings.specs.Settings.{SettingsValue}
 use Rattle.dots_gateway.specs.declared.exchange.Exchange.{Exchange}
 use Rattle.dots_gateway.specs.Routes.{routes_of}
 use Rattle.slot_journal.specs.Sizes.{slots_of}
-use Rattle.gateway_store.specs.Exchanges.{IsStore, is_young, last_number, most_young}
-use Rattle.gateway_store.proofs.Orders.{ordered}
-use Rattle.gateway_store.proofs.Young.{number_small}
+use Rattle.gateway_agent.specs.Exchanges.{IsStore, is_young, last_number, most_young}
+use Rattle.gateway_agent.proofs.Orders.{ordered}
+use Rattle.gateway_agent.proofs.Young.{number_small}
 use Rattle.gateway_agent.specs.Passing.{GatewayState, opened, step}
 use Rattle.gateway_agent.specs.Sent.{IsHanded, WasSent, HasSent}
 use Rattle.gateway_agent.specs.Surviving.{Story, kept_shown, shown, time_at, MeansAt}
@@ -82,15 +82,15 @@ longer : (old new : Owing GatewayState) → Grown old new → length old.last.ke
 longer old new grown = let long = ap length grown.grows ∙ length-append old.last.kept grown.more in omega (arith, long)
 
 -- a send tells all that was kept when it was owed
-told_kept : (old between : Owing GatewayState) (told : GatewayState) (out : OwnedOut) (done : Bool) → Stands old → ToldStep step old (gave out done) told between → told.kept ≡ old.last.kept
-told_kept old between told out done stands s = ap (λ (state : GatewayState). state.kept) (next_owed old between told out done stands s).0
+sent_kept : (old between : Owing GatewayState) (told : GatewayState) (out : OwnedOut) (done : Bool) → Stands old → ToldStep step old (gave out done) told between → told.kept ≡ old.last.kept
+sent_kept old between told out done stands s = ap (λ (state : GatewayState). state.kept) (next_owed old between told out done stands s).0
 
 all_shown : (old between : Owing GatewayState) (act : WireAct) (told : GatewayState) (b : Bool) (n : ℕ) → Stands old → ToldStep step old act told between → n ≤ length old.last.kept
     → (n ≤ (if b then kept_shown act told n else n)) × ((if b then kept_shown act told n else n) ≤ length old.last.kept)
 all_shown old between (took came at) told true n stands s le = (le_refl n, le)
 all_shown old between (took came at) told false n stands s le = (le_refl n, le)
 all_shown old between (gave out done) told true n stands s le =
-    let same = ap length (told_kept old between told out done stands s) in
+    let same = ap length (sent_kept old between told out done stands s) in
     (omega (arith, le, same), omega (arith, same))
 all_shown old between (gave out done) told false n stands s le = (le_refl n, le)
 
@@ -119,7 +119,7 @@ handed old between (gave (owned.Conn conn bytes) done) told upstream number n st
 handed old between (gave (owned.Close conn) done) told upstream number n stands s is = absurd is
 handed old between (gave (owned.To peer bytes) done) told upstream number n stands s is =
     let owed = next_owed old between told (owned.To peer bytes) done stands s in
-    (owed.1 number is.1, ap length (told_kept old between told (owned.To peer bytes) done stands s))
+    (owed.1 number is.1, ap length (sent_kept old between told (owned.To peer bytes) done stands s))
 
 sent_shown : (upstream m number : ℕ) (old end : Owing GatewayState) (acts : List Timed) (trace : List GatewayState) (n : ℕ) → Story old acts trace end → Stands old → n ≤ length old.last.kept
     → WasSent upstream m number acts → HasNumber (take (shown m acts trace n) end.last.kept) number

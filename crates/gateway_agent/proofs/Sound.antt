@@ -16,8 +16,8 @@ use Rattle.dots_gateway.specs.declared.passed.GatewayFault.TheVariants as fault
 use Rattle.dots_gateway.specs.declared.routes.Route.{Route}
 use Rattle.dots_gateway.specs.Exchanges.{ExchangesValue, is_full, is_over, waiting_again, with_one}
 use Rattle.dots_gateway.specs.Gateway.{GatewayValue, Said, gateway_at, UpOrLacks, DownOrLacks}
-use Rattle.gateway_store.specs.Exchanges.{is_young, young_at, next_number}
-use Rattle.gateway_store.proofs.Orders.{number_more}
+use Rattle.gateway_agent.specs.Exchanges.{is_young, young_at, next_number}
+use Rattle.gateway_agent.proofs.Orders.{number_more}
 use Rattle.gateway_agent.specs.Passing.{GatewayState, begun, restarted, time_from, state_at, sends_of, fresh_in, Refuses, answered, silent, full_text, UpSends, GoesUp, GoesDown, Passes}
 use Rattle.gateway_agent.specs.Sent.{IsPacket}
 use Rattle.gateway_agent.proofs.Fresh.{fresh_of, fresh_number}

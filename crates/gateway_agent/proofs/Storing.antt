@@ -3,12 +3,12 @@ use Rattle.std.proofs.Common.{◌≡◌, ℕ, zero, suc, ◌<◌, ◌≤◌, Boo
 use Rattle.std.specs.Prelude.{◌-◌, nat_lt, Result, Ok, Err, OnOk}
 use Rattle.std.proofs.lemmas.Bool.{cond-true, cond-false}
 use Rattle.dots_gateway.specs.declared.exchange.Exchange.{Exchange}
-use Rattle.gateway_store.specs.Crashes.{AreLeft}
-use Rattle.gateway_store.specs.Exchanges.{IsStore, young_at, last_number, last_time, most_young, kept_at}
-use Rattle.gateway_store.specs.Stores.{StoreValue, CanKeep, once_free}
-use Rattle.gateway_store.proofs.Keeping.{same_left, joins_left, of_request}
-use Rattle.gateway_store.proofs.Kept.{kept_alike, where_some, where_none}
-use Rattle.gateway_store.proofs.Orders.{dropped_are, one_more, time_dropped, time_more}
+use Rattle.gateway_agent.specs.Crashes.{AreLeft}
+use Rattle.gateway_agent.specs.Exchanges.{IsStore, young_at, last_number, last_time, most_young, kept_at}
+use Rattle.gateway_agent.specs.Stores.{StoreValue, CanKeep, once_free}
+use Rattle.gateway_agent.proofs.KeepingLemmas.{same_left, joins_left, of_request}
+use Rattle.gateway_agent.proofs.Kept.{kept_alike, where_some, where_none}
+use Rattle.gateway_agent.proofs.Orders.{dropped_are, one_more, time_dropped, time_more}
 use Rattle.gateway_agent.specs.Keeping.{IsOneMore}
 
 -- ---- what is left where a slot is made free

@@ -8,8 +8,8 @@ use Rattle.dots_host.specs.declared.event.Event.{Event}
 use Rattle.dots_host.specs.Acts.{WireAct, took, gave, Timed}
 use Rattle.dots_host.specs.Runs.{Owing, Trace, each_telling, IsSend, outs_of, Gives}
 use Rattle.dots_host.proofs.RunLemmas.{outs_back}
-use Rattle.dots_disk.specs.Media.{Medium, Media, IsImage, all_media}
-use Rattle.dots_disk.specs.Becoming.{EachMedium, KeepsMedia, Leaves, RestsWith}
+use Rattle.dots_host.specs.Media.{Medium, Media, IsImage, all_media}
+use Rattle.dots_host.specs.Becoming.{EachMedium, KeepsMedia, Leaves, RestsWith}
 use Rattle.slot_store.proofs.Steps.{image_at_rest}
 use Rattle.dots_settings.specs.Settings.{SettingsValue}
 use Rattle.dots_gateway.specs.declared.exchange.Exchange.{Exchange}
@@ -94,34 +94,34 @@ time_late m (timed ∷ acts) (told ∷ trace) t late =
 -- ---- sends
 
 -- none of the sends tells more entries
-abbrev pub TellFew : ℕ → List (GatewayState × OwnedOut) → Type 0
-TellFew most [] = Unit {0}
-TellFew most (send ∷ owed) = (length send.0.kept ≤ most) × TellFew most owed
+abbrev pub ShowFew : ℕ → List (GatewayState × OwnedOut) → Type 0
+ShowFew most [] = Unit {0}
+ShowFew most (send ∷ owed) = (length send.0.kept ≤ most) × ShowFew most owed
 
-few_told : (act : WireAct) (out : OwnedOut) (told : GatewayState) (b : Bool) (n most : ℕ) → IsSend out act → n ≤ most → length told.kept ≤ most → (if b then kept_shown act told n else n) ≤ most
-few_told (took e at) out told b n most s less few = absurd s
-few_told (gave o d) out told true n most s less few = few
-few_told (gave o d) out told false n most s less few = less
+few_after : (act : WireAct) (out : OwnedOut) (told : GatewayState) (b : Bool) (n most : ℕ) → IsSend out act → n ≤ most → length told.kept ≤ most → (if b then kept_shown act told n else n) ≤ most
+few_after (took e at) out told b n most s less few = absurd s
+few_after (gave o d) out told true n most s less few = few
+few_after (gave o d) out told false n most s less few = less
 
-shown_sends : (m moment : ℕ) (owed : List (GatewayState × OwnedOut)) (acts : List Timed) (n most : ℕ) → Gives moment (outs_of owed) acts → n ≤ most → TellFew most owed → shown m acts (shown_by owed) n ≤ most
+shown_sends : (m moment : ℕ) (owed : List (GatewayState × OwnedOut)) (acts : List Timed) (n most : ℕ) → Gives moment (outs_of owed) acts → n ≤ most → ShowFew most owed → shown m acts (shown_by owed) n ≤ most
 shown_sends m moment [] [] n most g less few = less
 shown_sends m moment [] (timed ∷ acts) n most g less few = absurd g
 shown_sends m moment (send ∷ owed) [] n most g less few = absurd g
 shown_sends m moment (send ∷ owed) (timed ∷ acts) n most g less few =
     shown_sends m (moment + 1) owed acts (if nat_lt timed.moment m then kept_shown timed.act send.0 n else n) most g.2
-    (few_told timed.act send.1 send.0 (nat_lt timed.moment m) n most g.1 less few.0) few.1
+    (few_after timed.act send.1 send.0 (nat_lt timed.moment m) n most g.1 less few.0) few.1
 
-no_time_told : (act : WireAct) (out : OwnedOut) (told : GatewayState) (b : Bool) (t : ℕ) → IsSend out act → (if b then time_shown act told t else t) ≡ t
-no_time_told (took e at) out told b t s = absurd s
-no_time_told (gave o d) out told true t s = refl
-no_time_told (gave o d) out told false t s = refl
+no_time_sent : (act : WireAct) (out : OwnedOut) (told : GatewayState) (b : Bool) (t : ℕ) → IsSend out act → (if b then time_shown act told t else t) ≡ t
+no_time_sent (took e at) out told b t s = absurd s
+no_time_sent (gave o d) out told true t s = refl
+no_time_sent (gave o d) out told false t s = refl
 
 time_sends : (m moment : ℕ) (owed : List (GatewayState × OwnedOut)) (acts : List Timed) (t : ℕ) → Gives moment (outs_of owed) acts → time_at m acts (shown_by owed) t ≡ t
 time_sends m moment [] [] t g = refl
 time_sends m moment [] (timed ∷ acts) t g = absurd g
 time_sends m moment (send ∷ owed) [] t g = absurd g
 time_sends m moment (send ∷ owed) (timed ∷ acts) t g =
-    ap (λ u. time_at m acts (shown_by owed) u) (no_time_told timed.act send.1 send.0 (nat_lt timed.moment m) t g.1) ∙ time_sends m (moment + 1) owed acts t g.2
+    ap (λ u. time_at m acts (shown_by owed) u) (no_time_sent timed.act send.1 send.0 (nat_lt timed.moment m) t g.1) ∙ time_sends m (moment + 1) owed acts t g.2
 
 gives_length : (m : ℕ) (owed : List (GatewayState × OwnedOut)) (acts : List Timed) → Gives m (outs_of owed) acts → length acts ≡ length (shown_by owed)
 gives_length m [] [] g = refl
@@ -129,9 +129,9 @@ gives_length m [] (timed ∷ acts) g = absurd g
 gives_length m (send ∷ owed) [] g = absurd g
 gives_length m (send ∷ owed) (timed ∷ acts) g = let same = gives_length (m + 1) owed acts g.2 in omega (arith, same)
 
-tell_each : (new : GatewayState) (outs : List OwnedOut) → TellFew (length new.kept) (each_telling new outs)
-tell_each new [] = tt
-tell_each new (out ∷ outs) = (le_refl (length new.kept), tell_each new outs)
+few_each : (new : GatewayState) (outs : List OwnedOut) → ShowFew (length new.kept) (each_telling new outs)
+few_each new [] = tt
+few_each new (out ∷ outs) = (le_refl (length new.kept), few_each new outs)
 
 -- ---- the disk, part by part
 
@@ -395,7 +395,7 @@ module _ (settings : SettingsValue) (most : ℕ) (start : GatewayState) where
     few_shown m =
         let told = here.bounded m in
         let more_there = longer in
-        shown_sends m moment owed more (shown m acts trace first_kept) (length new.kept) gives (omega (arith, told, more_there)) (tell_each new outs)
+        shown_sends m moment owed more (shown m acts trace first_kept) (length new.kept) gives (omega (arith, told, more_there)) (few_each new outs)
 
     -- and then the new ones alone
     sent : (m : ℕ) (image : ℕ → ℕ) → past_of a < m → After image → Whole m image

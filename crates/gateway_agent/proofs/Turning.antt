@@ -10,9 +10,9 @@ use Rattle.dots_host.specs.declared.out.OwnedOut.{OwnedOut}
 use Rattle.dots_host.specs.Acts.{Timed, event_of}
 use Rattle.dots_host.specs.Runs.{Added, Gives}
 use Rattle.dots_host.proofs.RunLemmas.{added_none, added_weaker, added_then}
-use Rattle.dots_disk.specs.Media.{Media}
-use Rattle.dots_disk.specs.Becoming.{Leaves, RestsWith, KeepsMedia, IsMoment}
-use Rattle.dots_disk.specs.Beside.{KeepsActs}
+use Rattle.dots_host.specs.Media.{Media}
+use Rattle.dots_host.specs.Becoming.{Leaves, RestsWith, KeepsMedia, IsMoment}
+use Rattle.dots_host.specs.Beside.{KeepsActs}
 use Rattle.slot_store.proofs.Steps.{begins, leaves_as}
 use Rattle.dots_settings.specs.Settings.{SettingsValue}
 use Rattle.dots_gateway.specs.declared.exchange.Exchange.{Exchange}
@@ -21,9 +21,9 @@ use Rattle.dots_gateway.specs.declared.passed.Passed.TheVariants as passed
 use Rattle.dots_gateway.specs.declared.passed.GatewayFault.{GatewayFault}
 use Rattle.dots_gateway.specs.declared.passed.GatewayFault.TheVariants as fault
 use Rattle.dots_gateway.specs.Gateway.{GatewayValue, Said, gateway_at, UpOrLacks, DownOrLacks}
-use Rattle.gateway_store.specs.Crashes.{AreAlike, HasYoung}
-use Rattle.gateway_store.specs.Exchanges.{last_time, most_young}
-use Rattle.gateway_store.specs.Stores.{StoreValue, IsOn}
+use Rattle.gateway_agent.specs.Crashes.{AreAlike, HasYoung}
+use Rattle.gateway_agent.specs.Exchanges.{last_time, most_young}
+use Rattle.gateway_agent.specs.Stores.{StoreValue, IsOn}
 use Rattle.gateway_agent.specs.Passing.{GatewayState, GoesUp, GoesDown, Passes, FaultSends, fresh_in, sends_of, state_at}
 use Rattle.gateway_agent.specs.Keeping.{AgentValue, AreJoined, CanKeepAll, Counts, HasMore, IsIn, IsMore, agent}
 use Rattle.gateway_agent.specs.Turning.{HasAlike, HasTurn, Turned, TookBy, BrokeBy, Took, BrokeOff, IsTaken, most_of, time_in}

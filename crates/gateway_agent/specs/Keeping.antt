@@ -6,9 +6,9 @@ use Rattle.dots_gateway.specs.declared.exchange.Waiting.{Waiting}
 use Rattle.dots_gateway.specs.Gateway.{GatewayValue}
 use Rattle.dots_gateway.specs.Routes.{routes_of}
 use Rattle.slot_journal.specs.Sizes.{slots_of}
-use Rattle.gateway_store.specs.Crashes.{AreAlike, HasYoung}
-use Rattle.gateway_store.specs.Exchanges.{IsStore, young_at, last_number, last_time, next_number, most_young}
-use Rattle.gateway_store.specs.Stores.{StoreValue, CanKeep}
+use Rattle.gateway_agent.specs.Crashes.{AreAlike, HasYoung}
+use Rattle.gateway_agent.specs.Exchanges.{IsStore, young_at, last_number, last_time, next_number, most_young}
+use Rattle.gateway_agent.specs.Stores.{StoreValue, CanKeep}
 use Rattle.gateway_agent.specs.Passing.{GatewayState}
 
 pub record AgentValue : Type 0 where

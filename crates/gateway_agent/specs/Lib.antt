@@ -1,3 +1,8 @@
+pub mod Forms
+pub mod Exchanges
+pub mod Stores
+pub mod Crashes
+pub mod Refusing
 pub mod Passing
 pub mod Keeping
 pub mod Turning

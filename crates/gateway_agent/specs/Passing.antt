@@ -4,8 +4,8 @@ use Rattle.std.specs.Prelude.{◌≡◌, ℕ, ◌==◌, max, List, [], ◌∷◌
 use Rattle.std.specs.Bool.{MatchBool}
 use Rattle.coap_message.specs.declared.codes.TheConstants.{SERVICE_UNAVAILABLE, INTERNAL_SERVER_ERROR}
 use Rattle.coap_message.specs.Message.{CoapMessage, IsMessage, spelling}
-use Rattle.coap_replies.specs.Exchanges.{exchange_in, is_request}
-use Rattle.coap_replies.specs.Replies.{plain}
+use Rattle.dots_keys.specs.Exchanges.{exchange_in, is_request}
+use Rattle.dots_keys.specs.Replies.{plain}
 use Rattle.dots_host.specs.declared.event.Event.{Event}
 use Rattle.dots_host.specs.declared.event.Event.TheVariants as event
 use Rattle.dots_host.specs.declared.out.OwnedOut.{OwnedOut}
@@ -22,7 +22,7 @@ use Rattle.dots_gateway.specs.Gateway.{GatewayValue, Said, gateway_at, UpOrLacks
 use Rattle.dots_gateway.specs.Routes.{routes_of}
 use Rattle.dots_settings.specs.Settings.{SettingsValue}
 use Rattle.slot_journal.specs.Sizes.{slots_of}
-use Rattle.gateway_store.specs.Exchanges.{young_at, last_time, next_number, most_young}
+use Rattle.gateway_agent.specs.Exchanges.{young_at, last_time, next_number, most_young}
 
 -- the gateway, and all exchanges that were kept: those that a disk held at first, and behind them each new one
 pub record GatewayState : Type 0 where

@@ -4,9 +4,9 @@ use Rattle.dots_host.specs.declared.event.Event.{Event}
 use Rattle.dots_host.specs.declared.event.Event.TheVariants as event
 use Rattle.dots_host.specs.Acts.{WireAct, took, Timed}
 use Rattle.dots_host.specs.Runs.{Owing, resting, Added, GoOn, EndsBy, events_in}
-use Rattle.dots_disk.specs.Media.{Media}
-use Rattle.dots_disk.specs.Becoming.{RestsWith}
-use Rattle.dots_disk.specs.Beside.{KeepsActs}
+use Rattle.dots_host.specs.Media.{Media}
+use Rattle.dots_host.specs.Becoming.{RestsWith}
+use Rattle.dots_host.specs.Beside.{KeepsActs}
 use Rattle.dots_settings.specs.Settings.{SettingsValue}
 use Rattle.dots_gateway.specs.declared.exchange.Exchange.{Exchange}
 use Rattle.slot_store.specs.Gates.{Sees}
@@ -14,9 +14,9 @@ use Rattle.slot_store.specs.Opening.{Is}
 use Rattle.slot_journal.specs.Sizes.{slots_of}
 use Rattle.slot_journal.specs.Untaken.{IsFailure}
 use Rattle.slot_journal.specs.declared.fault.JournalFault.TheVariants as fault
-use Rattle.gateway_store.specs.Crashes.{HasThe}
-use Rattle.gateway_store.specs.Exchanges.{IsStore, most_young}
-use Rattle.gateway_store.specs.Refusing.{RefusesStore}
+use Rattle.gateway_agent.specs.Crashes.{HasThe}
+use Rattle.gateway_agent.specs.Exchanges.{IsStore, most_young}
+use Rattle.gateway_agent.specs.Refusing.{RefusesStore}
 use Rattle.gateway_agent.specs.declared.stopping.GatewayHalt.{GatewayHalt}
 use Rattle.gateway_agent.specs.declared.stopping.GatewayHalt.TheVariants as halt
 use Rattle.gateway_agent.specs.declared.stopping.GatewayEnding.{GatewayEnding}

@@ -6,14 +6,14 @@ use Rattle.dots_host.specs.declared.event.What.TheVariants as what
 use Rattle.dots_host.specs.declared.out.OwnedOut.{OwnedOut}
 use Rattle.dots_host.specs.Acts.{Timed}
 use Rattle.dots_host.specs.Runs.{Added, Gives}
-use Rattle.dots_disk.specs.Media.{Media}
-use Rattle.dots_disk.specs.Becoming.{Leaves, RestsWith, KeepsMedia, IsMoment}
-use Rattle.dots_disk.specs.Beside.{KeepsActs}
+use Rattle.dots_host.specs.Media.{Media}
+use Rattle.dots_host.specs.Becoming.{Leaves, RestsWith, KeepsMedia, IsMoment}
+use Rattle.dots_host.specs.Beside.{KeepsActs}
 use Rattle.dots_settings.specs.Settings.{SettingsValue}
 use Rattle.dots_gateway.specs.declared.exchange.Exchange.{Exchange}
-use Rattle.gateway_store.specs.Crashes.{HasThe, AreAlike}
-use Rattle.gateway_store.specs.Exchanges.{IsStore, most_young, last_time}
-use Rattle.gateway_store.specs.Stores.{IsOn}
+use Rattle.gateway_agent.specs.Crashes.{HasThe, AreAlike}
+use Rattle.gateway_agent.specs.Exchanges.{IsStore, most_young, last_time}
+use Rattle.gateway_agent.specs.Stores.{IsOn}
 use Rattle.gateway_agent.specs.Passing.{GatewayState, Passes}
 use Rattle.gateway_agent.specs.Keeping.{AgentValue, IsIn}
 

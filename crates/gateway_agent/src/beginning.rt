@@ -1,7 +1,7 @@
 //! How a gateway begins: with the store that its disk holds.
 
 ghost use Rattle.std.specs.Prelude.{◌≡◌, ◌≢◌, ℕ, ◌≤◌, ◌<◌, ◌^◌, ◌⊎◌, List, IfOk, IfErr, OnOk};
-ghost use Rattle.dots_disk.specs.Becoming.{Leaves, RestsWith};
+ghost use Rattle.dots_host.specs.Becoming.{Leaves, RestsWith};
 ghost use Rattle.dots_gateway.specs.declared.exchange.Exchange.{Exchange};
 ghost use Rattle.dots_gateway.specs.Routes.{routes_of};
 ghost use Rattle.dots_history.specs.declared.entry.Entry.{Entry};
@@ -13,18 +13,19 @@ ghost use Rattle.slot_journal.specs.Refused.{Caused};
 ghost use Rattle.slot_journal.specs.Sizes.{slots_of};
 ghost use Rattle.slot_journal.specs.Untaken.{IsFailure};
 ghost use Rattle.slot_journal.specs.declared.fault.JournalFault.{JournalFault};
-ghost use Rattle.gateway_store.specs.Crashes.{HasThe};
-ghost use Rattle.gateway_store.specs.Exchanges.{IsStore, most_young, next_number};
-ghost use Rattle.gateway_store.specs.Refusing.{RefusesStore};
-ghost use Rattle.gateway_store.specs.Stores.{IsOn};
+ghost use Rattle.gateway_agent.specs.Crashes.{HasThe};
+ghost use Rattle.gateway_agent.specs.Exchanges.{IsStore, most_young, next_number};
+ghost use Rattle.gateway_agent.specs.Refusing.{RefusesStore};
+ghost use Rattle.gateway_agent.specs.Stores.{IsOn};
 ghost use Rattle.gateway_agent.specs.Passing.{GatewayState, begun, opened, restarted};
 ghost use Rattle.gateway_agent.specs.Keeping.{AreJoined, IsFor, IsIn, agent};
 
-use dots_disk::Disk;
+use crate::store::Store;
 use dots_gateway::GatewayCore;
+use dots_host::Disk;
 use dots_lists::NoMemory;
 use dots_settings::Settings;
-use gateway_store::{JournalFault, Store};
+use slot_journal::JournalFault;
 use std::alloc::Global;
 
 /// The gateway that begins with a store at the time `at`, in seconds. Its young exchanges wait again.

@@ -1,18 +1,19 @@
 //! Keeping an exchange before its first packet is sent.
 
 ghost use Rattle.std.specs.Prelude.{◌≡◌, ℕ, ◌≤◌, Ok, OnOk, option_to_list};
-ghost use Rattle.dots_disk.specs.Becoming.{Leaves, RestsWith};
+ghost use Rattle.dots_host.specs.Becoming.{Leaves, RestsWith};
 ghost use Rattle.dots_host.specs.Causes.{HasCause};
 ghost use Rattle.dots_settings.specs.Settings.{SettingsValue};
 ghost use Rattle.slot_store.specs.Layout.{needed_of};
-ghost use Rattle.gateway_store.specs.Exchanges.{IsStore, most_young};
-ghost use Rattle.gateway_store.specs.Stores.{IsOn};
+ghost use Rattle.gateway_agent.specs.Exchanges.{IsStore, most_young};
+ghost use Rattle.gateway_agent.specs.Stores.{IsOn};
 ghost use Rattle.gateway_agent.specs.Passing.{fresh_in};
 ghost use Rattle.gateway_agent.specs.Keeping.{CanKeepAll, HasMore, IsMore};
 
-use dots_disk::Disk;
+use crate::store::Store;
 use dots_gateway::{Exchange, Passed};
-use gateway_store::{DiskFault, Store};
+use dots_host::Disk;
+use slot_journal::DiskFault;
 
 /// The exchange that is new, if one is.
 fn fresh_in(said: &Passed) -> Option<Exchange>

@@ -8,9 +8,9 @@ ghost use Rattle.gateway_agent.specs.Passing.{Refuses, FaultSends};
 use crate::giving::send_to;
 use coap_message::codes::{INTERNAL_SERVER_ERROR, SERVICE_UNAVAILABLE};
 use coap_message::decode;
-use coap_replies::{Exchange, is_request, plain};
 use dots_gateway::GatewayFault;
 use dots_host::Wire;
+use dots_keys::{Exchange, is_request, plain};
 
 /// What a request is answered where no more may wait.
 const FULL_TEXT: &[u8] = b"gateway full";

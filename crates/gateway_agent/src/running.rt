@@ -1,7 +1,7 @@
 //! The loop over the events of a host, and the whole run of a gateway.
 
 ghost use Rattle.std.specs.Prelude.{◌≡◌, ◌≤◌, ℕ, ⊤, List, length, IfErr};
-ghost use Rattle.dots_disk.specs.Becoming.{RestsWith};
+ghost use Rattle.dots_host.specs.Becoming.{RestsWith};
 ghost use Rattle.dots_host.specs.Causes.{Rose};
 ghost use Rattle.dots_host.specs.Runs.{Owing, Added};
 ghost use Rattle.dots_host.specs.declared.TheConstants.{MAX_EVENT_BYTES};
@@ -9,21 +9,20 @@ ghost use Rattle.dots_gateway.specs.declared.exchange.Exchange.{Exchange};
 ghost use Rattle.slot_store.specs.Gates.{Sees};
 ghost use Rattle.slot_store.specs.Layout.{needed_of};
 ghost use Rattle.slot_journal.specs.Sizes.{slots_of};
-ghost use Rattle.gateway_store.specs.Crashes.{HasThe};
-ghost use Rattle.gateway_store.specs.Exchanges.{IsStore, most_young};
-ghost use Rattle.gateway_store.specs.Stores.{IsOn};
+ghost use Rattle.gateway_agent.specs.Crashes.{HasThe};
+ghost use Rattle.gateway_agent.specs.Exchanges.{IsStore, most_young};
+ghost use Rattle.gateway_agent.specs.Stores.{IsOn};
 ghost use Rattle.gateway_agent.specs.Passing.{GatewayState};
 ghost use Rattle.gateway_agent.specs.Keeping.{AreJoined, IsFor, IsIn, agent};
 ghost use Rattle.gateway_agent.specs.Running.{Came, IsFollowed, StopsFor, Behaves, EndsFor, Completes};
 
 use crate::beginning::{begin, restart};
 use crate::stopping::{GatewayEnding, GatewayHalt};
+use crate::store::Store;
 use crate::turns::take;
-use dots_disk::Host;
 use dots_gateway::GatewayCore;
-use dots_host::{MAX_EVENT_BYTES, What};
+use dots_host::{Host, MAX_EVENT_BYTES, What};
 use dots_settings::Settings;
-use gateway_store::Store;
 use std::alloc::Global;
 
 /// The most events of a run.

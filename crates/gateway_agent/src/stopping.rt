@@ -1,4 +1,4 @@
-use gateway_store::JournalFault;
+use slot_journal::JournalFault;
 
 /// What stopped the events of a gateway before the end.
 #[derive(Clone, Copy)]

@@ -14,10 +14,10 @@ ghost use Rattle.gateway_agent.specs.Turning.{Took, TookBy, BrokeOff, BrokeBy, I
 use crate::giving::give;
 use crate::keeping::keep_fresh;
 use crate::refusing::refuse_for;
-use dots_disk::Host;
+use crate::store::Store;
 use dots_gateway::GatewayCore;
-use dots_host::{Got, What};
-use gateway_store::{DiskFault, Store};
+use dots_host::{Got, Host, What};
+use slot_journal::DiskFault;
 
 /// Takes one event, its bytes at the front of the room: one step of the machine. An exchange that is new is on the disk before its packet
 /// is handed to the host.

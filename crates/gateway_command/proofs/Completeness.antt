@@ -8,8 +8,8 @@ use Rattle.dots_settings.specs.Settings.{SettingsValue}
 use Rattle.dots_settings.proofs.OneFile.{no_settings_at_fault, one_settings}
 use Rattle.slot_store.specs.Layout.{needed_of}
 use Rattle.slot_journal.specs.Sizes.{slots_of}
-use Rattle.gateway_store.specs.Crashes.{HasThe}
-use Rattle.gateway_store.specs.Exchanges.{IsStore, most_young}
+use Rattle.gateway_agent.specs.Crashes.{HasThe}
+use Rattle.gateway_agent.specs.Exchanges.{IsStore, most_young}
 use Rattle.gateway_agent.specs.declared.stopping.GatewayEnding.{GatewayEnding}
 use Rattle.gateway_agent.specs.Running.{Completes}
 use Rattle.dots_machine.specs.Outside.{Outside, SourceFailed, WireFailed, DiskFailed, ReportFailed}

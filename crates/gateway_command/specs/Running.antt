@@ -2,7 +2,7 @@
 use Rattle.std.specs.Prelude.{◌≡◌, ℕ, ◌+◌, ◌≤◌, ◌⊎◌, Bool, true, false, List, length, Option, Some, None, IfSome}
 use Rattle.std.specs.Io.KnownBytes.{Appends}
 use Rattle.dots_host.specs.Writing.{AppendsBeginning, Writes}
-use Rattle.dots_disk.specs.Media.{Media}
+use Rattle.dots_host.specs.Media.{Media}
 use Rattle.dots_settings.specs.declared.fault.SettingsFault.{SettingsFault}
 use Rattle.dots_settings.specs.declared.fault.SettingsFault.TheVariants as fault
 use Rattle.dots_settings.specs.Settings.{SettingsValue}
@@ -12,8 +12,8 @@ use Rattle.dots_gateway.specs.declared.exchange.Exchange.{Exchange}
 use Rattle.slot_store.specs.Gates.{Sees}
 use Rattle.slot_store.specs.Layout.{needed_of}
 use Rattle.slot_journal.specs.Sizes.{slots_of}
-use Rattle.gateway_store.specs.Crashes.{HasThe}
-use Rattle.gateway_store.specs.Exchanges.{IsStore, most_young}
+use Rattle.gateway_agent.specs.Crashes.{HasThe}
+use Rattle.gateway_agent.specs.Exchanges.{IsStore, most_young}
 use Rattle.gateway_agent.specs.declared.stopping.GatewayHalt.{GatewayHalt}
 use Rattle.gateway_agent.specs.declared.stopping.GatewayHalt.TheVariants as halt
 use Rattle.gateway_agent.specs.declared.stopping.GatewayEnding.{GatewayEnding}

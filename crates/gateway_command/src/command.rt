@@ -9,8 +9,7 @@ ghost use Rattle.gateway_command.specs.Outcomes.{RunsGateway, GatewayOutcome};
 
 use crate::running::gateway_over;
 use crate::words::is_gateway;
-use dots_disk::Host;
-use dots_host::{Sink, Source, write_all};
+use dots_host::{Host, Sink, Source, write_all};
 use std::alloc::Global;
 
 /// The exit status of words that ask for no gateway.

@@ -1,10 +1,9 @@
 //! What is written at the end.
 
-ghost use Rattle.dots_agents.specs.Writing.{Wrote};
+ghost use Rattle.dots_host.specs.AgentWriting.{Wrote};
 ghost use Rattle.gateway_command.specs.Report.{waiting_line};
 
-use dots_agents::write_pieces;
-use dots_host::{Failed, Sink};
+use dots_host::{Failed, Sink, write_pieces};
 use itoa::Buffer;
 
 /// Writes how many exchanges wait. Where the sink fails a beginning of that was written.

@@ -11,11 +11,10 @@ ghost use Rattle.gateway_command.specs.Running.{has_hosted, Behaves, Runs, Repor
 
 use crate::ending::CommandEnding;
 use crate::report::write_waiting;
-use dots_disk::Host;
-use dots_host::{Failed, Sink, Source, write_all};
+use dots_host::{Failed, Host, Sink, Source, write_all};
+use dots_machine::write_refusal;
 use dots_settings::{Settings, SettingsFault, read_settings};
 use gateway_agent::{GatewayEnding, GatewayHalt, run_gateway};
-use refusal_lines::write_refusal;
 use std::alloc::Global;
 
 /// Reads the settings, runs the gateway over the events of the host until the end, and writes how many exchanges wait then. Settings that

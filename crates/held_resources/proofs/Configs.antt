@@ -11,12 +11,12 @@ use Rattle.dots_history.specs.declared.change.Change.TheVariants as change
 use Rattle.dots_history.specs.Entries.{same_client, is_held, undoes, undoes_of_client, undoes_of_peer, is_configuration, reconfigures, resumes, is_lost, is_loss}
 use Rattle.dots_history.specs.Histories.{or_else}
 use Rattle.dots_history.proofs.Remembering.{or_none}
-use Rattle.dots_laws.specs.Capacities.{loses_as}
-use Rattle.dots_laws.specs.Views.{held_with}
+use Rattle.dots_history.specs.Capacities.{loses_as}
+use Rattle.dots_history.specs.Views.{held_with}
 use Rattle.held_resources.specs.declared.configurations.Configuration.{Configuration}
-use Rattle.dots_laws.specs.Held.{config_set, config_of}
+use Rattle.dots_history.specs.Held.{config_set, config_of}
 use Rattle.held_resources.specs.Tables.{Sizes, configured, configuration_with, configuration_of, peer_of, is_placed, is_known, config_in}
-use Rattle.dots_laws.proofs.Written.{some_of_both, or_no, not_resumed}
+use Rattle.dots_history.proofs.Written.{some_of_both, or_no, not_resumed}
 use Rattle.held_resources.proofs.Holdings.{turned_eq}
 
 set_parts : (c later : Change) (s : ℕ × Config) → config_set c ≡ Some s

@@ -10,8 +10,8 @@ use Rattle.dots_history.specs.declared.change.Change.{Change}
 use Rattle.dots_history.specs.declared.change.Change.TheVariants as change
 use Rattle.dots_history.specs.Entries.{is_held, is_deregister, is_configuration, undoes, undoes_alias, undoes_acl, undoes_of_client, undoes_of_peer, undoes_loss, reconfigures, resumes, is_lost, is_loss, same_client}
 use Rattle.dots_history.specs.Histories.{stays, held}
-use Rattle.dots_laws.specs.Fits.{is_of_mitigations}
-use Rattle.dots_laws.specs.Filed.{Filed, entry_of, refiled}
+use Rattle.dots_history.specs.Fits.{is_of_mitigations}
+use Rattle.dots_history.specs.Filed.{Filed, entry_of, refiled}
 use Rattle.held_resources.specs.declared.row.HeldSlot.{HeldSlot}
 use Rattle.held_resources.specs.declared.row.HeldName.{HeldName}
 use Rattle.held_resources.specs.declared.row.HeldName.TheVariants as written

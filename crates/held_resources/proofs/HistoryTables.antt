@@ -13,23 +13,23 @@ use Rattle.dots_history.specs.declared.change.Change.TheVariants as change
 use Rattle.dots_history.specs.Entries.{same_client, is_held, undoes, is_configuration, is_loss}
 use Rattle.dots_history.specs.Histories.{tally, held}
 use Rattle.dots_history.specs.Rows.{is_lost_in}
-use Rattle.dots_laws.specs.Calm.{loser_of}
-use Rattle.dots_laws.specs.Capacities.{is_registration, is_alias, is_list, has_client, loses_as}
-use Rattle.dots_laws.specs.Tables.{Client, client_of, is_of}
-use Rattle.dots_laws.specs.Views.{held_with}
-use Rattle.dots_laws.specs.Fits as laws
-use Rattle.dots_laws.proofs.GoingOn.{held_push}
-use Rattle.dots_laws.proofs.Joining.{owned_with}
-use Rattle.dots_laws.proofs.Single.{of_itself, is_of_client, client_is_of}
+use Rattle.dots_history.specs.Calm.{loser_of}
+use Rattle.dots_history.specs.Capacities.{is_registration, is_alias, is_list, has_client, loses_as}
+use Rattle.dots_history.specs.Tables.{Client, client_of, is_of}
+use Rattle.dots_history.specs.Views.{held_with}
+use Rattle.dots_history.specs.Fits as laws
+use Rattle.dots_history.proofs.GoingOn.{held_push}
+use Rattle.dots_history.proofs.Joining.{owned_with}
+use Rattle.dots_history.proofs.Single.{of_itself, is_of_client, client_is_of}
 use Rattle.held_resources.specs.declared.rooms.Rooms.{Rooms}
 use Rattle.held_resources.specs.declared.configurations.Configuration.{Configuration}
 use Rattle.held_resources.specs.declared.signals.Signal.{Signal}
-use Rattle.dots_laws.specs.Held.{aliases_of, acls_of, registers, is_registered, registrant, config_of}
-use Rattle.dots_laws.specs.Filed.{Filed}
+use Rattle.dots_history.specs.Held.{aliases_of, acls_of, registers, is_registered, registrant, config_of}
+use Rattle.dots_history.specs.Filed.{Filed}
 use Rattle.held_resources.specs.Rows.{HeldRows, rows_more}
 use Rattle.held_resources.specs.Tables.{SameButSlots, Sizes, Tables, Clients, Holding, Have, Represents, KeepsRoom, is_placed, is_known, holding_of, holdings, clients_of, clients_with, list_with, has_cuid, aliases_with, acls_with, update, tables_with, configuration_with, configuration_of, no_configuration, peer_of, no_clients, rooms_of, sizes_of, client_at, in_clients, registrant_in, aliases_in, acls_in, number_in, config_in, own_of, no_loss, signal_with, signal_of, lost_in}
 use Rattle.held_resources.specs.Accepting.{keeps_rooms, keeps_room, takes, Takes, rightly, takes_in, accepts_by, accepts}
-use Rattle.dots_laws.proofs.Written.{other_way, own_aliases, own_acls, number_of_aliases, number_of_acls, no_aliases, no_acls}
+use Rattle.dots_history.proofs.Written.{other_way, own_aliases, own_acls, number_of_aliases, number_of_acls, no_aliases, no_acls}
 use Rattle.held_resources.proofs.Holdings.{IsFresh, length_holdings, own_holdings, others_holdings, any_is, still_some, find_client, any_client, if_registered, registered_cases, not_registered}
 use Rattle.held_resources.proofs.Configs.{configurations_with, no_config, find_configuration}
 use Rattle.held_resources.proofs.Losses.{signals_with, find_lost}

@@ -11,14 +11,14 @@ use Rattle.dots_history.specs.declared.change.Change.{Change}
 use Rattle.dots_history.specs.declared.change.Change.TheVariants as change
 use Rattle.dots_history.specs.Entries.{is_held, undoes, is_deregister}
 use Rattle.dots_history.specs.Histories.{tally}
-use Rattle.dots_laws.specs.Capacities.{is_registration}
-use Rattle.dots_laws.specs.Tables.{Client, client_of, is_of}
-use Rattle.dots_laws.specs.Views.{held_with}
-use Rattle.dots_laws.proofs.Single.{is_of_client, client_is_of}
+use Rattle.dots_history.specs.Capacities.{is_registration}
+use Rattle.dots_history.specs.Tables.{Client, client_of, is_of}
+use Rattle.dots_history.specs.Views.{held_with}
+use Rattle.dots_history.proofs.Single.{is_of_client, client_is_of}
 use Rattle.held_resources.specs.declared.rooms.Rooms.{Rooms}
-use Rattle.dots_laws.specs.Held.{aliases_of, acls_of, registers, is_registered}
+use Rattle.dots_history.specs.Held.{aliases_of, acls_of, registers, is_registered}
 use Rattle.held_resources.specs.Tables.{Holding, no_holding, holding_of, holding_with, aliases_with, holdings, has_cuid, changed, list_with}
-use Rattle.dots_laws.proofs.Written.{own_aliases, other_aliases, own_acls, other_acls, reg_undone}
+use Rattle.dots_history.proofs.Written.{own_aliases, other_aliases, own_acls, other_acls, reg_undone}
 
 -- ---- tests
 pub turned_eq : (a b : ℕ) → (a == b) ≡ (b == a)

@@ -15,17 +15,17 @@ use Rattle.dots_history.specs.declared.change.Change.{Change}
 use Rattle.dots_history.specs.declared.change.Change.TheVariants as change
 use Rattle.dots_history.specs.Entries.{same_client, is_held, undoes, undoes_of_client, undoes_of_peer, undoes_alias, undoes_acl, undoes_loss, reconfigures, resumes, is_deregister, is_configuration, is_lost, is_loss}
 use Rattle.dots_history.specs.Histories.{Mitigation, is_nil, held, tally, mitigations}
-use Rattle.dots_laws.specs.Calm.{is_of_settings, acts_rightly, loses_rightly, waits_rightly, is_client_of, loser_of, may_act, may_configure, change_inside}
-use Rattle.dots_laws.specs.Capacities.{is_registration, loses_as}
-use Rattle.dots_laws.specs.Fits as laws
-use Rattle.dots_laws.specs.Tables.{Client, is_of}
-use Rattle.dots_laws.specs.Views.{held_with}
-use Rattle.dots_laws.proofs.BySettings.{loser_in}
-use Rattle.dots_laws.proofs.GoingOn.{held_push}
-use Rattle.dots_laws.specs.Held.{aliases_of, acls_of, is_registered, of_client, written}
+use Rattle.dots_history.specs.Calm.{is_of_settings, acts_rightly, loses_rightly, waits_rightly, is_client_of, loser_of, may_act, may_configure, change_inside}
+use Rattle.dots_history.specs.Capacities.{is_registration, loses_as}
+use Rattle.dots_history.specs.Fits as laws
+use Rattle.dots_history.specs.Tables.{Client, is_of}
+use Rattle.dots_history.specs.Views.{held_with}
+use Rattle.dots_history.proofs.BySettings.{loser_in}
+use Rattle.dots_history.proofs.GoingOn.{held_push}
+use Rattle.dots_history.specs.Held.{aliases_of, acls_of, is_registered, of_client, written}
 use Rattle.held_resources.specs.Tables.{Have, Represents, Tables, sizes_of, is_placed, is_known}
 use Rattle.held_resources.specs.Accepting.{accepts, keeps_rooms}
-use Rattle.dots_laws.proofs.Written.{written_alone, with_other, other_aliases, other_acls}
+use Rattle.dots_history.proofs.Written.{written_alone, with_other, other_aliases, other_acls}
 use Rattle.held_resources.proofs.Holdings.{turned_eq}
 
 -- ---- registrations

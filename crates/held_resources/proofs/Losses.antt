@@ -10,13 +10,13 @@ use Rattle.dots_history.specs.declared.change.Change.TheVariants as change
 use Rattle.dots_history.specs.Entries.{same_client, is_held, undoes, undoes_of_client, undoes_of_peer, undoes_loss, reconfigures, resumes, is_lost, is_loss}
 use Rattle.dots_history.specs.Histories.{held}
 use Rattle.dots_history.specs.Rows.{loses, is_lost_in}
-use Rattle.dots_laws.specs.Capacities.{loses_as}
-use Rattle.dots_laws.specs.Views.{held_with}
-use Rattle.dots_laws.proofs.GoingOn.{held_push}
+use Rattle.dots_history.specs.Capacities.{loses_as}
+use Rattle.dots_history.specs.Views.{held_with}
+use Rattle.dots_history.proofs.GoingOn.{held_push}
 use Rattle.held_resources.specs.declared.signals.Signal.{Signal}
-use Rattle.dots_laws.specs.Held.{of_peer}
+use Rattle.dots_history.specs.Held.{of_peer}
 use Rattle.held_resources.specs.Tables.{Sizes, own_of, lost_after, signal_with, signal_of, is_placed, is_known}
-use Rattle.dots_laws.proofs.Written.{or_no}
+use Rattle.dots_history.proofs.Written.{or_no}
 use Rattle.held_resources.proofs.Holdings.{turned_eq}
 
 -- ---- what undoes a loss

@@ -6,9 +6,9 @@ use Rattle.std.proofs.lemmas.Bool.{false≢true, both_ways, and_parts, and_from,
 use Rattle.dots_history.specs.declared.entry.Entry.{Entry}
 use Rattle.dots_history.specs.Entries.{is_lost, is_loss}
 use Rattle.dots_history.specs.Rows.{loses, is_lost_in}
-use Rattle.dots_laws.specs.Capacities.{loses_as}
+use Rattle.dots_history.specs.Capacities.{loses_as}
 use Rattle.held_resources.specs.declared.signals.Signal.{Signal}
-use Rattle.dots_laws.specs.Held.{is_lost_of}
+use Rattle.dots_history.specs.Held.{is_lost_of}
 use Rattle.held_resources.specs.Tables.{Sizes, Tables, Have, is_known, is_placed, signal_of}
 use Rattle.held_resources.proofs.Losses.{lost_loss}
 

@@ -8,9 +8,9 @@ use Rattle.dots_history.specs.declared.change.Change.TheVariants as change
 use Rattle.dots_history.specs.Entries.{is_held, undoes}
 use Rattle.dots_history.specs.Histories.{Mitigation, stays}
 use Rattle.dots_history.specs.Keeping.{pass, kept_places}
-use Rattle.dots_laws.specs.KeptPlaces.{at_places, held_places}
-use Rattle.dots_laws.proofs.Keeping.{Keeper}
-use Rattle.dots_laws.specs.Filed.{Filed, entry_of, slot_of}
+use Rattle.dots_history.specs.KeptPlaces.{at_places, held_places}
+use Rattle.dots_history.proofs.Keeping.{Keeper}
+use Rattle.dots_history.specs.Filed.{Filed, entry_of, slot_of}
 use Rattle.held_resources.specs.declared.row.HeldSlot.{HeldSlot}
 use Rattle.held_resources.specs.declared.row.HeldName.TheVariants as written
 use Rattle.held_resources.specs.Rows.{written_of, row_with, row_of, rows_of, slots_in}

@@ -12,7 +12,7 @@ use Rattle.std.proofs.lemmas.List.Quantifiers.{position-Some}
 use Rattle.std.proofs.lemmas.Slice.Eq.{bytes_eq-Decides}
 use Rattle.dots_history.specs.declared.change.Change.{Change}
 use Rattle.dots_history.specs.declared.change.Change.TheVariants as change
-use Rattle.dots_laws.specs.Capacities.{is_registration}
+use Rattle.dots_history.specs.Capacities.{is_registration}
 use Rattle.held_resources.specs.declared.rooms.Rooms.{Rooms}
 use Rattle.held_resources.specs.Tables.{Holding, Clients, no_holding, holding_with, has_cuid, changed, list_with, AreApart, AreEmpty, HaveRooms}
 use Rattle.held_resources.proofs.Holdings.{turned_bytes, unchanged}

@@ -10,8 +10,8 @@ use Rattle.dots_settings.specs.declared.peer.Role.{Role}
 use Rattle.dots_settings.specs.declared.peer.Role.TheVariants as role
 use Rattle.dots_settings.specs.Settings.{SettingsValue}
 use Rattle.dots_settings.specs.Sizes.{most_of_domain}
-use Rattle.dots_laws.specs.Capacities.{Capacities, most_named}
-use Rattle.dots_laws.specs.Calm.{numbers_from, loser_by, loser_of}
+use Rattle.dots_history.specs.Capacities.{Capacities, most_named}
+use Rattle.dots_history.specs.Calm.{numbers_from, loser_by, loser_of}
 use Rattle.held_resources.specs.Sizes.{is_client, most_held}
 
 pub of_domains_most : (one other : ℕ) → one ≤ 16 → other ≤ 400 → one * other ≤ 6400

@@ -5,8 +5,8 @@ use Rattle.dots_history.specs.declared.entry.Entry.{Entry}
 use Rattle.dots_history.specs.declared.change.Change.{Change}
 use Rattle.dots_history.specs.Entries.{same_client}
 use Rattle.dots_history.specs.Histories.{tally, held}
-use Rattle.dots_laws.specs.Capacities.{is_registration, is_alias, is_list}
-use Rattle.dots_laws.specs.Fits.{registers_rightly}
+use Rattle.dots_history.specs.Capacities.{is_registration, is_alias, is_list}
+use Rattle.dots_history.specs.Fits.{registers_rightly}
 use Rattle.held_resources.specs.declared.rooms.Rooms.{Rooms}
 use Rattle.held_resources.specs.Tables.{Sizes, Tables, Clients, Holding, KeepsRoom, Represents, is_known, client_at, has_cuid, list_with, aliases_with, acls_with}
 

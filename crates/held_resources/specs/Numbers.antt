@@ -2,8 +2,8 @@
 use Rattle.std.specs.Prelude.{ℕ, ◌&&◌, ◌==◌, nat_lt, if◌then◌else◌, List, Option, Some, None}
 use Rattle.dots_history.specs.declared.entry.Entry.{Entry}
 use Rattle.dots_history.specs.Histories.{tally}
-use Rattle.dots_laws.specs.Capacities.{is_registration, is_alias, is_list}
-use Rattle.dots_laws.specs.Tables.{Client, is_of}
+use Rattle.dots_history.specs.Capacities.{is_registration, is_alias, is_list}
+use Rattle.dots_history.specs.Tables.{Client, is_of}
 use Rattle.held_resources.specs.declared.kind.RoomKind.{RoomKind}
 use Rattle.held_resources.specs.declared.kind.RoomKind.TheVariants as kind
 

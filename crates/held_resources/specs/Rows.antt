@@ -5,7 +5,7 @@ use Rattle.dots_history.specs.declared.change.Change.{Change}
 use Rattle.dots_history.specs.declared.change.Change.TheVariants as change
 use Rattle.dots_history.specs.Entries.{is_deregister, is_configuration, undoes_alias, undoes_acl, is_loss}
 use Rattle.dots_history.specs.Histories.{sieve, stays}
-use Rattle.dots_laws.specs.Filed.{Filed, entry_of}
+use Rattle.dots_history.specs.Filed.{Filed, entry_of}
 use Rattle.dots_history.specs.Slots.{number_in}
 use Rattle.held_resources.specs.declared.row.HeldSlot.{HeldSlot}
 use Rattle.held_resources.specs.declared.row.HeldName.{HeldName}

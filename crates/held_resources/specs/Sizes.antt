@@ -5,7 +5,7 @@ use Rattle.dots_settings.specs.declared.peer.Role.{Role}
 use Rattle.dots_settings.specs.declared.peer.Role.TheVariants as role
 use Rattle.dots_settings.specs.Settings.{SettingsValue}
 use Rattle.dots_settings.specs.Sizes.{most_of_domain}
-use Rattle.dots_laws.specs.Calm.{loser_of}
+use Rattle.dots_history.specs.Calm.{loser_of}
 
 -- a peer of this role is a client
 abbrev pub is_client : Role → Bool

@@ -14,17 +14,17 @@ use Rattle.dots_history.specs.declared.change.Change.TheVariants as change
 use Rattle.dots_history.specs.Entries.{undoes_alias, undoes_acl, is_configuration, is_loss}
 use Rattle.dots_history.specs.Histories.{held}
 use Rattle.dots_history.specs.Rows.{acl_of, is_lost_in}
-use Rattle.dots_laws.specs.Calm.{loser_of}
-use Rattle.dots_laws.specs.Capacities.{is_registration, has_client, loses_as}
-use Rattle.dots_laws.specs.Filed.{Filed}
-use Rattle.dots_laws.specs.Tables.{Client, client_of}
+use Rattle.dots_history.specs.Calm.{loser_of}
+use Rattle.dots_history.specs.Capacities.{is_registration, has_client, loses_as}
+use Rattle.dots_history.specs.Filed.{Filed}
+use Rattle.dots_history.specs.Tables.{Client, client_of}
 use Rattle.held_resources.specs.declared.kind.RoomKind.{RoomKind}
 use Rattle.held_resources.specs.declared.kind.RoomKind.TheVariants as kind
 use Rattle.held_resources.specs.declared.rooms.Rooms.{Rooms}
 use Rattle.held_resources.specs.declared.configurations.Configuration.{Configuration}
 use Rattle.held_resources.specs.declared.signals.Signal.{Signal}
 use Rattle.held_resources.specs.Rows.{HeldRows, rows_more, rows_moved}
-use Rattle.dots_laws.specs.Held.{alias_of, aliases_of, acls_of, config_of}
+use Rattle.dots_history.specs.Held.{alias_of, aliases_of, acls_of, config_of}
 
 -- How many domains there are, how much each of them and its clients may have, which peers may have a session
 -- configuration, and which of them are clients, each with its domain: their signal may be lost.

@@ -2,14 +2,13 @@
 
 ghost use Rattle.std.specs.Prelude.{◌≡◌, ℕ, ◌<◌, ◌++◌, ◌∷◌, [], not, filter, map, length, nat_le, IfOk, false, option_copied, position, Some, slice_index_or, slice_set, vec_capacity};
 ghost use Rattle.std.specs.List.{list_any, find};
-ghost use Rattle.dots_laws.specs.Capacities.{is_registration};
+ghost use Rattle.dots_history.specs.Capacities.{is_registration};
 ghost use Rattle.held_resources.specs.Tables.{Holding, no_holding, holding_with, has_cuid, changed, list_with, clients_with, KeepsRoom};
 ghost use Rattle.held_resources.specs.Accepting.{keeps_room, takes, Takes};
 
 use crate::registered_client::RegisteredClient;
 use crate::rooms::Rooms;
-use dots_history::Change;
-use dots_laws::is_registration;
+use dots_history::{Change, is_registration};
 use dots_lists::{NoMemory, Text};
 use std::alloc::Global;
 use std::marker::Model;

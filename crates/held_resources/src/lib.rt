@@ -3,7 +3,7 @@
 //!
 //! A [`HeldResources`] represents histories (`specs/Tables`, `Represents`): what they leave held, by the definitions of
 //! `dots_history`, is in its tables. [`HeldResources::apply`] makes it represent the history with one more entry, and each reader
-//! answers what the definitions of `Held` of `dots_laws`, and `specs/Numbers`, say of the history. What a client holds depends on its own entries alone, and
+//! answers what the definitions of `Held` of `dots_history`, and `specs/Numbers`, say of the history. What a client holds depends on its own entries alone, and
 //! whether a signal is lost on those of its peer and domain, which [`laws`] says. Only [`HeldResources::new`] takes memory.
 //!
 //! Each entry stands in a slot of a journal. Of all that is held the slot of the entry is kept that wrote it, in a row that says what

@@ -1,7 +1,7 @@
 //! What is read of a client and of a session.
 
 ghost use Rattle.std.specs.Prelude.{◌≡◌, option_copied, option_map, is_some};
-ghost use Rattle.dots_laws.specs.Held.{alias_named, acl_named};
+ghost use Rattle.dots_history.specs.Held.{alias_named, acl_named};
 ghost use Rattle.held_resources.specs.Tables.{registrant_in, aliases_in, acls_in, config_in, config_now};
 
 use crate::configurations::Configuration;

@@ -3,7 +3,7 @@
 ghost use Rattle.std.specs.Prelude.{◌≡◌, ◌≤◌, ◌++◌, [], not, filter, length, nat_le, IfOk, vec_capacity, option_to_list, is_some, Some};
 ghost use Rattle.dots_history.specs.Entries.{undoes_alias, undoes_acl};
 ghost use Rattle.dots_history.specs.Rows.{acl_of};
-ghost use Rattle.dots_laws.specs.Held.{alias_of};
+ghost use Rattle.dots_history.specs.Held.{alias_of};
 ghost use Rattle.held_resources.specs.Tables.{no_holding, holding_with, aliases_with, acls_with, KeepsRoom};
 ghost use Rattle.held_resources.specs.Accepting.{keeps_room};
 

@@ -6,12 +6,12 @@ ghost use Rattle.dots_history.specs.declared.entry.Entry.{Entry};
 ghost use Rattle.dots_history.specs.Entries.{is_configuration};
 ghost use Rattle.dots_history.specs.Rows.{is_lost_in};
 ghost use Rattle.dots_history.specs.Histories.{held};
-ghost use Rattle.dots_laws.specs.Capacities.{is_registration, is_alias, is_list, loses_as};
-ghost use Rattle.dots_laws.specs.Held.{aliases_of, acls_of, alias_named, acl_named, is_registered, registrant, config_of, is_lost_of};
+ghost use Rattle.dots_history.specs.Capacities.{is_registration, is_alias, is_list, loses_as};
+ghost use Rattle.dots_history.specs.Held.{aliases_of, acls_of, alias_named, acl_named, is_registered, registrant, config_of, is_lost_of};
 ghost use Rattle.held_resources.specs.Numbers.{number_of, reached};
 ghost use Rattle.held_resources.specs.Tables.{Represents, Clients, sizes_of, rooms_of, no_clients, peer_of, update, clients_with, tables_with, tables_renumbered, is_placed, is_known, client_at, registrant_in, aliases_in, acls_in, number_in, config_in, most_of, config_now, lost_in};
 ghost use Rattle.dots_history.specs.Slots.{Rises};
-ghost use Rattle.dots_laws.specs.KeptPlaces.{union};
+ghost use Rattle.dots_history.specs.KeptPlaces.{union};
 ghost use Rattle.held_resources.specs.Rows.{rows_with, rows_more, slots_in};
 ghost use Rattle.held_resources.specs.Sizes.{most_held};
 ghost use Rattle.held_resources.specs.Accepting.{accepts, accepts_by, FitsIn, Takes, rightly, takes_in};
@@ -349,7 +349,7 @@ fn change_domain(domains: &mut [DomainClients], entry: Entry)
 }
 
 /// Whether a change of a client that is registered, or isn't, registers rightly.
-#[tactic(auto, unfolding(dots_laws::specs::Capacities::is_registration, dots_laws::specs::Capacities::is_alias, dots_laws::specs::Capacities::is_list))]
+#[tactic(auto, unfolding(dots_history::specs::Capacities::is_registration, dots_history::specs::Capacities::is_alias, dots_history::specs::Capacities::is_list))]
 fn registers_rightly(change: &Change, registered: bool) -> bool
     ensures { result ≡ rightly change.now registered }
 {

@@ -2,13 +2,12 @@
 
 ghost use Rattle.std.specs.Prelude.{◌≡◌, ◌≤◌, ◌++◌, [], not, filter, length, map, option_to_list, vec_capacity, IfOk};
 ghost use Rattle.dots_history.specs.Slots.{Rises, number_in};
-ghost use Rattle.dots_laws.specs.KeptPlaces.{union};
-ghost use Rattle.dots_laws.specs.Fits.{is_of_mitigations};
+ghost use Rattle.dots_history.specs.KeptPlaces.{union};
+ghost use Rattle.dots_history.specs.Fits.{is_of_mitigations};
 ghost use Rattle.held_resources.specs.Rows.{row_of, rows_with, is_undone, slots_in, renumbered};
 
 use crate::row::{HeldSlot, is_undone, row_of};
-use dots_history::{Change, Entry, SlotList, number_in};
-use dots_laws::is_of_mitigations;
+use dots_history::{Change, Entry, SlotList, is_of_mitigations, number_in};
 use dots_lists::NoMemory;
 use std::alloc::Global;
 use std::marker::Model;

@@ -2,8 +2,8 @@
 
 ghost use Rattle.std.specs.Prelude.{◌≡◌, ◌==◌, ◌&&◌, ◌++◌, map, IfOk, OnOk};
 ghost use Rattle.std.specs.List.{flat_map, list_any};
-ghost use Rattle.dots_laws.specs.Calm.{loser_of};
-ghost use Rattle.dots_laws.specs.Capacities.{loses_as};
+ghost use Rattle.dots_history.specs.Calm.{loser_of};
+ghost use Rattle.dots_history.specs.Capacities.{loses_as};
 ghost use Rattle.held_resources.specs.Tables.{no_loss, own_of, signal_with, lost_after};
 
 use dots_history::{Change, Entry, is_loss};

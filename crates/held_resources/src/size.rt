@@ -2,7 +2,7 @@
 
 ghost use Rattle.std.specs.Prelude.{◌≡◌, ◌≤◌, ◌+◌, ◌*◌, length};
 ghost use Rattle.std.specs.List.{flat_map};
-ghost use Rattle.dots_laws.specs.Calm.{loser_of};
+ghost use Rattle.dots_history.specs.Calm.{loser_of};
 ghost use Rattle.held_resources.specs.Sizes.{is_client, most_held};
 
 use dots_settings::{PeerRow, Role, Settings};

@@ -1,2 +1,5 @@
+pub mod ReportLines
+pub mod ListLines
+pub mod ListLemmas
 mod Domains
 mod Fronts

@@ -1,19 +1,19 @@
 -- What is told of the filters of a journal.
 use Rattle.std.specs.Prelude.{◌≡◌, ℕ, ◌≤◌, true, max, List, Option}
-use Rattle.dots_disk.specs.Media.{Media}
+use Rattle.dots_host.specs.Media.{Media}
 use Rattle.dots_settings.specs.Settings.{SettingsValue}
 use Rattle.dots_history.specs.declared.entry.Entry.{Entry}
-use Rattle.dots_laws.specs.Fits.{last_time, is_calm}
+use Rattle.dots_history.specs.Fits.{last_time, is_calm}
 use Rattle.slot_store.specs.Layout.{needed_of}
 use Rattle.slot_journal.specs.declared.fault.JournalFault.{JournalFault}
 use Rattle.slot_journal.specs.DiskEntries.{HasEntries}
 use Rattle.slot_journal.specs.Sizes.{slots_of}
 use Rattle.slot_journal.specs.Untaken.{RefusesLedger, IsFailure}
-use Rattle.timed_filters.specs.Ends.{IsScript}
+use Rattle.host_checks.specs.Ends.{IsScript}
 use Rattle.dots_machine.specs.Machine.{afresh}
 use Rattle.dots_machine.specs.Report.{report_of}
-use Rattle.file_checks.specs.declared.checked.Checked.{Checked}
-use Rattle.file_checks.specs.declared.checked.Checked.TheVariants as checked
+use Rattle.dots_script.specs.declared.checked.Checked.{Checked}
+use Rattle.dots_script.specs.declared.checked.Checked.TheVariants as checked
 use Rattle.host_checks.specs.declared.filtering.FilterForm.{FilterForm}
 use Rattle.host_checks.specs.declared.filtering.FilterForm.TheVariants as form
 use Rattle.host_checks.specs.Journals.{refused_text}

@@ -9,12 +9,12 @@ use Rattle.ip_scope.specs.Prefix.{PrefixValue}
 use Rattle.dots_settings.specs.declared.domains.DomainRow.{DomainRow}
 use Rattle.dots_settings.specs.declared.peer.PeerRow.{PeerRow}
 use Rattle.dots_settings.specs.Settings.{SettingsValue}
-use Rattle.host_file.specs.HostLine.{LineValue, signal_line, http_line, peer_line, key_of, how_many}
-use Rattle.host_file.specs.Found.{has_journal, reserve_in}
+use Rattle.dots_edge.specs.HostLine.{LineValue, signal_line, http_line, peer_line, key_of, how_many}
+use Rattle.dots_edge.specs.Found.{has_journal, reserve_in}
 use Rattle.slot_store.specs.Layout.{needed_of}
 use Rattle.slot_journal.specs.Sizes.{slots_of}
 use Rattle.dots_edge.specs.JournalFile.{room_of}
-use Rattle.file_checks.specs.Summary.{count_line}
+use Rattle.dots_script.specs.Summary.{count_line}
 
 -- ---- lines of one kind
 

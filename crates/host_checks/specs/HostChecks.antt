@@ -1,20 +1,20 @@
 -- What is told of a host file that is used with some settings, and of its journal; or the first fault of its lines.
 use Rattle.std.specs.Prelude.{◌≡◌, ◌≢◌, ◌⊎◌, ℕ, ◌-◌, ◌<◌, ◌≤◌, true, false, ◌&&◌, Bool, List, ◌++◌, length, codes, decimal, take, drop, Some, ⊤}
-use Rattle.plain_text.specs.Lines.{lines_of, fields_of}
+use Rattle.dots_lists.specs.Lines.{lines_of, fields_of}
 use Rattle.dots_settings.specs.Settings.{SettingsValue}
 use Rattle.dots_settings.specs.File.{SettingsAre, SettingsFail}
 use Rattle.dots_settings.specs.declared.fault.SettingsFault.{SettingsFault}
-use Rattle.host_file.specs.HostLine.{LineValue}
-use Rattle.host_file.specs.HostFile.{Stand, IsRefused}
-use Rattle.host_file.specs.Complaints.{JudgesFault}
-use Rattle.host_file.specs.FaultText.{fault_text}
-use Rattle.host_file.specs.declared.complaint.Complaint.{Complaint}
-use Rattle.host_file.specs.declared.host_fault.HostFault.{HostFault}
-use Rattle.host_file.specs.declared.host_fault.HostFault.TheVariants as fault
-use Rattle.file_checks.specs.declared.checked.Checked.{Checked}
-use Rattle.file_checks.specs.declared.checked.Checked.TheVariants as checked
-use Rattle.file_checks.specs.Checks.{ChecksSettings, quoted_part, line_in}
-use Rattle.file_checks.specs.Quoting.{quoted}
+use Rattle.dots_edge.specs.HostLine.{LineValue}
+use Rattle.dots_edge.specs.HostFile.{Stand, IsRefused}
+use Rattle.dots_edge.specs.Complaints.{JudgesFault}
+use Rattle.dots_edge.specs.FaultText.{fault_text}
+use Rattle.dots_edge.specs.declared.complaint.Complaint.{Complaint}
+use Rattle.dots_edge.specs.declared.host_fault.HostFault.{HostFault}
+use Rattle.dots_edge.specs.declared.host_fault.HostFault.TheVariants as fault
+use Rattle.dots_script.specs.declared.checked.Checked.{Checked}
+use Rattle.dots_script.specs.declared.checked.Checked.TheVariants as checked
+use Rattle.dots_script.specs.Checks.{ChecksSettings, quoted_part, line_in}
+use Rattle.dots_script.specs.Quoting.{quoted}
 use Rattle.host_checks.specs.declared.journal_state.JournalState.{JournalState}
 use Rattle.host_checks.specs.declared.files.Task.{Task}
 use Rattle.host_checks.specs.declared.files.Task.TheVariants as task

@@ -7,7 +7,7 @@ use Rattle.slot_journal.specs.declared.fault.JournalFault.TheVariants as fault
 use Rattle.slot_journal.specs.DiskEntries.{HasEntries}
 use Rattle.slot_journal.specs.Refused.{Refuses}
 use Rattle.slot_journal.specs.Sizes.{slots_of}
-use Rattle.file_checks.specs.Summary.{count_line}
+use Rattle.dots_script.specs.Summary.{count_line}
 use Rattle.host_checks.specs.declared.journal_state.JournalState.{JournalState}
 use Rattle.host_checks.specs.declared.journal_state.JournalState.TheVariants as state
 use Rattle.host_checks.specs.Findings.{numbered}

@@ -1,3 +1,5 @@
+pub mod Lines
+pub mod Ends
 pub mod EntryLines
 pub mod Findings
 pub mod HostChecks

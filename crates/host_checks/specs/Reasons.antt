@@ -1,7 +1,7 @@
 -- Why a line of a host file is at fault, in plain words.
 use Rattle.std.specs.Prelude.{ℕ, List, codes}
-use Rattle.host_file.specs.declared.complaint.Reason.{Reason}
-use Rattle.host_file.specs.declared.complaint.Reason.TheVariants as reason
+use Rattle.dots_edge.specs.declared.complaint.Reason.{Reason}
+use Rattle.dots_edge.specs.declared.complaint.Reason.TheVariants as reason
 
 abbrev pub reason_words : Reason → List ℕ
 reason_words reason.Word = codes "the first word of a line is journal, reserve, signal, http, peer or events"

@@ -1,17 +1,17 @@
 //! What is told of a host file.
 
 ghost use Rattle.std.specs.Prelude.{◌≡◌, ℕ, List, map, IfOk};
-ghost use Rattle.plain_text.specs.Lines.{lines_of};
-ghost use Rattle.host_file.specs.HostLine.{line_value};
-ghost use Rattle.host_file.specs.HostFile.{Stand};
+ghost use Rattle.dots_lists.specs.Lines.{lines_of};
+ghost use Rattle.dots_edge.specs.HostLine.{line_value};
+ghost use Rattle.dots_edge.specs.HostFile.{Stand};
 ghost use Rattle.host_checks.specs.HostChecks.{ChecksHost};
 
 use crate::findings::{add_findings, is_startable};
 use crate::journal_state::{JournalState, add_journal};
+use dots_edge::HostLine;
 use dots_lists::{Bytes, NoMemory};
+use dots_script::Checked;
 use dots_settings::Settings;
-use file_checks::Checked;
-use host_file::HostLine;
 use std::alloc::Global;
 
 /// What is told at this second of the lines of a host file that is used with these settings, and of its journal: how many lines there

@@ -2,12 +2,12 @@
 
 ghost use Rattle.std.specs.Prelude.{◌≡◌, ◌⊎◌, ◌+◌, ◌^◌, ◌<◌, ◌≤◌, length, map, Ok, IfOk, IfSome, OnOk};
 ghost use Rattle.dots_host.specs.Causes.{Rose};
-ghost use Rattle.plain_text.specs.Lines.{lines_of};
+ghost use Rattle.dots_lists.specs.Lines.{lines_of};
 ghost use Rattle.dots_settings.specs.File.{SettingsFail};
-ghost use Rattle.file_checks.specs.Checks.{ChecksSettings};
-ghost use Rattle.host_file.specs.HostLine.{line_value};
-ghost use Rattle.host_file.specs.HostFile.{Stand};
-ghost use Rattle.file_checks.specs.declared.checked.Checked.TheVariants as checked;
+ghost use Rattle.dots_script.specs.Checks.{ChecksSettings};
+ghost use Rattle.dots_edge.specs.HostLine.{line_value};
+ghost use Rattle.dots_edge.specs.HostFile.{Stand};
+ghost use Rattle.dots_script.specs.declared.checked.Checked.TheVariants as checked;
 ghost use Rattle.host_checks.specs.HostChecks.{ChecksFiles, ReportsChecked, ReportsHost, front_of, too_long};
 
 use crate::checking::check_host;
@@ -16,12 +16,13 @@ use crate::host_fault::host_fault_report;
 use crate::journal_state::{JournalState, add_journal};
 use crate::listing::list_journal;
 use crate::looking::look_at;
-use dots_edge::{FoundJournal, JournalReader};
+use dots_edge::{
+    FoundJournal, HostFault, HostLine, JournalReader, journal_in, read_host_file, reserve_in,
+};
 use dots_host::Source;
 use dots_lists::{Bytes, NoMemory};
+use dots_script::{Checked, Unchecked, check_content, read_front};
 use dots_settings::{Settings, SettingsFault, settings_of};
-use file_checks::{Checked, Unchecked, check_content, read_front};
-use host_file::{HostFault, HostLine, journal_in, read_host_file, reserve_in};
 use std::alloc::Global;
 use std::fs::{File, Files};
 use std::time::Clock;

@@ -7,23 +7,22 @@ ghost use Rattle.slot_journal.specs.DiskEntries.{HasEntries};
 ghost use Rattle.slot_journal.specs.Sizes.{slots_of};
 ghost use Rattle.slot_journal.specs.Untaken.{RefusesLedger, IsFailure};
 ghost use Rattle.dots_history.specs.declared.entry.Entry.{Entry};
-ghost use Rattle.dots_laws.specs.Fits.{last_time, is_calm};
-ghost use Rattle.file_checks.specs.declared.checked.Checked.TheVariants as checked;
+ghost use Rattle.dots_history.specs.Fits.{last_time, is_calm};
+ghost use Rattle.dots_script.specs.declared.checked.Checked.TheVariants as checked;
 ghost use Rattle.host_checks.specs.Filters.{HasForm, ReportsFilters};
 ghost use Rattle.host_checks.specs.Journals.{refused_text};
 
 use crate::journal_state::add_refused;
-use dots_disk::Disk;
+use crate::reading::report_at;
+use crate::script::script_at;
 use dots_edge::JournalReader;
-use dots_host::Failed;
+use dots_host::{Disk, Failed};
 use dots_lists::{Bytes, NoMemory};
+use dots_script::Checked;
 use dots_settings::Settings;
-use file_checks::Checked;
-use filters_report::report_at;
 use slot_journal::{JournalFault, slots};
 use slot_store::SLOT;
 use std::alloc::Global;
-use timed_filters::script_at;
 
 /// How often a journal that may have changed meanwhile is read anew.
 const MORE_TRIES: u32 = 64;

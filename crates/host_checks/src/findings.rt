@@ -2,16 +2,15 @@
 
 ghost use Rattle.std.specs.Prelude.{◌≡◌, ◌==◌, ◌+◌, ◌<◌, ◌++◌, if◌then◌else◌, [], ℕ, List, codes, decimal, length, map, take, OnOk};
 ghost use Rattle.std.specs.List.{list_any, flat_map};
-ghost use Rattle.host_file.specs.HostLine.{line_value, how_many};
-ghost use Rattle.host_file.specs.Found.{reserve_in};
+ghost use Rattle.dots_edge.specs.HostLine.{line_value, how_many};
+ghost use Rattle.dots_edge.specs.Found.{reserve_in};
 ghost use Rattle.dots_edge.specs.JournalFile.{room_of};
 ghost use Rattle.host_checks.specs.Findings.{is_signal, is_http, is_peer, is_of_peer, family_of, serves, numbered, no_signal, no_address, is_named, not_named, not_served, of_line, is_whole, whole_family, no_room, no_journal, is_roomy, too_small, is_startable, signal_count, http_count, peer_count, needed_count, stranger_line, whole_line, counts, kinds, amounts, peer_remarks, remarks, faults, findings, needed};
 
-use dots_edge::room_of;
+use dots_edge::{HostLine, journal_in, key_of, reserve_in, room_of};
 use dots_lists::NoMemory;
+use dots_script::add_count;
 use dots_settings::{PeerRow, Settings};
-use file_checks::add_count;
-use host_file::{HostLine, journal_in, key_of, reserve_in};
 use ip_scope::{Addr, Family, Prefix};
 use itoa::Buffer;
 use slot_journal::bytes_needed;

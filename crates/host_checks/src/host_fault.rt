@@ -1,20 +1,19 @@
 //! What is told of a host file with a fault.
 
 ghost use Rattle.std.specs.Prelude.{◌≡◌, ◌≢◌, ◌-◌, ◌++◌, drop, map, Some, IfOk, OnOk};
-ghost use Rattle.plain_text.specs.Lines.{lines_of, fields_of};
-ghost use Rattle.file_checks.specs.Checks.{quoted_part};
-ghost use Rattle.host_file.specs.HostFile.{IsRefused};
-ghost use Rattle.host_file.specs.FaultText.{fault_text};
-ghost use Rattle.host_file.specs.declared.host_fault.HostFault.TheVariants as fault;
+ghost use Rattle.dots_lists.specs.Lines.{lines_of, fields_of};
+ghost use Rattle.dots_script.specs.Checks.{quoted_part};
+ghost use Rattle.dots_edge.specs.HostFile.{IsRefused};
+ghost use Rattle.dots_edge.specs.FaultText.{fault_text};
+ghost use Rattle.dots_edge.specs.declared.host_fault.HostFault.TheVariants as fault;
 ghost use Rattle.host_checks.specs.HostChecks.{line_at, number_of, report_of, IsAtFault};
 
 use crate::findings::add_numbered;
 use crate::reasons::reason_words;
-use dots_lists::{Bytes, NoMemory};
-use file_checks::{end_quoted, quoted_part};
-use host_file::{Complaint, HostFault, complaint_about};
+use dots_edge::{Complaint, HostFault, complaint_about};
+use dots_lists::{Bytes, NoMemory, fields_of, split_line};
+use dots_script::{end_quoted, quoted_part};
 use itoa::Buffer;
-use plain_text::{fields_of, split_line};
 use std::alloc::Global;
 
 /// The line of the first fault of a host file, and another that says why in plain words and quotes what is to be mended.

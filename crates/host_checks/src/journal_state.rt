@@ -6,7 +6,7 @@ ghost use Rattle.host_checks.specs.Journals.{is_ahead, last_line, restart_second
 use crate::entry_line::add_words;
 use crate::findings::add_numbered;
 use dots_lists::NoMemory;
-use file_checks::add_count;
+use dots_script::add_count;
 use slot_journal::JournalFault;
 
 /// How many seconds the last entry may be ahead of the clock.

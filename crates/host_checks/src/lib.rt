@@ -5,9 +5,14 @@
 //! the journal, which [`look_at`] reads off a disk, and [`host_fault_report`] that of a host file with a fault. Start reading at
 //! `specs/HostChecks.antt`; `specs/Findings.antt` has the remarks and faults of the lines, and `specs/Journals.antt` what is said of the
 //! journal. [`list_journal`] lists its entries (`specs/EntryLines.antt`), and [`filters_journal`] writes its filters (`specs/Filters.antt`).
+//!
+//! [`report_of`] writes the filters of a registry as the lines that a server prints at its end, and [`report_at`] those of the journal of a disk
+//! (`specs/Lines.antt`). [`script_of`] and [`script_at`] write them as a script for `nft`, each with its end: `specs/Ends.antt` says which rows
+//! and lists these are, and how many seconds are left of each.
 #![tactic(auto)]
 
 mod checking;
+mod ends;
 mod entry_line;
 mod files;
 mod filtering;
@@ -15,8 +20,14 @@ mod findings;
 mod host_fault;
 mod journal_state;
 mod listing;
+mod lists;
 mod looking;
+mod reading;
 mod reasons;
+mod report;
+mod script;
+mod timed;
+mod words;
 
 pub use checking::check_host;
 pub use files::{Task, check_files};
@@ -25,3 +36,6 @@ pub use host_fault::host_fault_report;
 pub use journal_state::JournalState;
 pub use listing::list_journal;
 pub use looking::look_at;
+pub use reading::report_at;
+pub use report::report_of;
+pub use script::{script_at, script_of};

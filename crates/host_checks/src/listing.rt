@@ -3,21 +3,19 @@
 ghost use Rattle.std.specs.Prelude.{◌≡◌, ◌+◌, ◌<◌, ◌≤◌, ◌^◌, ◌++◌, ℕ, List, length, IfOk, OnOk};
 ghost use Rattle.slot_store.specs.Gates.{Sees};
 ghost use Rattle.slot_store.specs.Layout.{needed_of};
-ghost use Rattle.file_checks.specs.declared.checked.Checked.TheVariants as checked;
+ghost use Rattle.dots_script.specs.declared.checked.Checked.TheVariants as checked;
 ghost use Rattle.host_checks.specs.EntryLines.{entry_lines};
 ghost use Rattle.host_checks.specs.Listings.{listed_with, ListsJournal};
 
 use crate::entry_line::add_entry;
 use crate::journal_state::add_refused;
-use dots_disk::Disk;
 use dots_history::Entry;
+use dots_host::Disk;
 use dots_lists::{Bytes, NoMemory};
+use dots_script::Checked;
 use dots_settings::Settings;
-use entry_records::{EntryFault, entry_of};
-use file_checks::Checked;
-use record_formats::Format;
-use slot_journal::{EntryList, Journal, JournalFault, slots};
-use slot_store::{SLOT, SlotStore, read_slot};
+use slot_journal::{EntryFault, EntryList, Journal, JournalFault, entry_of, slots};
+use slot_store::{Format, SLOT, SlotStore, read_slot};
 use std::alloc::Global;
 
 /// The lines of the entries that the journal of a disk holds under these settings, in the order of its slots. Where a server refuses the

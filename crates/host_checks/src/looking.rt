@@ -5,8 +5,8 @@ ghost use Rattle.slot_store.specs.Gates.{Sees};
 ghost use Rattle.host_checks.specs.Journals.{last_of, IsFound};
 
 use crate::journal_state::JournalState;
-use dots_disk::Disk;
 use dots_history::Entry;
+use dots_host::Disk;
 use dots_lists::NoMemory;
 use dots_settings::Settings;
 use slot_journal::{Journal, JournalFault};

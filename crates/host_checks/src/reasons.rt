@@ -1,7 +1,7 @@
 ghost use Rattle.std.specs.Prelude.{◌≡◌};
 ghost use Rattle.host_checks.specs.Reasons.{reason_words};
 
-use host_file::Reason;
+use dots_edge::Reason;
 
 /// Why a line of a host file is at fault, in words.
 pub fn reason_words(reason: Reason) -> &'static [u8]

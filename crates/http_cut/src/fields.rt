@@ -6,8 +6,8 @@ ghost use Rattle.http_cut.specs.SpanValues.{fields_at};
 
 use crate::fault::HttpFault;
 use crate::text::{has_close, is_same_word, media_type};
+use dots_lists::value_of;
 use httparse::spans::HeaderSpan;
-use plain_text::value_of;
 
 /// The greatest number of bytes of a body.
 const GREATEST_BODY: u64 = 8_192;

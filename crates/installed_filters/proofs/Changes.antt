@@ -5,7 +5,7 @@ use Rattle.std.proofs.lemmas.Bool.{false≢true}
 use Rattle.std.proofs.lemmas.List.{length-append}
 use Rattle.std.proofs.lemmas.Option.{none-some, same_Some}
 use Rattle.acl_lists.specs.declared.acl.Acl.{Acl}
-use Rattle.filter_rows.specs.declared.rows.AclRow.{AclRow}
+use Rattle.acl_lists.specs.declared.rows.AclRow.{AclRow}
 use Rattle.dots_history.specs.declared.entry.Entry.{Entry}
 use Rattle.dots_history.specs.declared.change.Change.{Change}
 use Rattle.dots_history.specs.declared.change.Change.TheVariants as change

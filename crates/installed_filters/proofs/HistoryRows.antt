@@ -8,8 +8,8 @@ use Rattle.std.proofs.lemmas.List.Folds.{flat_map-map}
 use Rattle.std.proofs.lemmas.Grind.{flat_map-append}
 use Rattle.std.proofs.lemmas.Option.{none-some}
 use Rattle.acl_lists.specs.declared.acl.Acl.{Acl}
-use Rattle.filter_rows.specs.declared.rows.ScrubRow.{ScrubRow}
-use Rattle.filter_rows.specs.declared.rows.AclRow.{AclRow}
+use Rattle.acl_lists.specs.declared.rows.ScrubRow.{ScrubRow}
+use Rattle.acl_lists.specs.declared.rows.AclRow.{AclRow}
 use Rattle.filter_table.specs.TableRows.{row_set, waits}
 use Rattle.dots_history.specs.declared.entry.Entry.{Entry}
 use Rattle.dots_history.specs.declared.put.Put.{Put}
@@ -21,21 +21,21 @@ use Rattle.dots_history.specs.Entries.{same_client, put_of, option_any, holds_of
 use Rattle.dots_history.specs.Histories.{Mitigation, live, status, step, mitigations, held}
 use Rattle.dots_history.specs.Keeping.{moved}
 use Rattle.dots_history.specs.Rows.{acl_of, is_lost_in, works}
-use Rattle.dots_laws.specs.Tables.{client_of, bare, bare_mitigation, is_due}
-use Rattle.dots_laws.specs.Views.{mitigations_at, mitigations_with, mitigations_of}
-use Rattle.dots_laws.proofs.Adding.{adding}
-use Rattle.dots_laws.proofs.Ageing.{mitigations_age}
-use Rattle.dots_laws.proofs.Bare.{bare_mitigations}
-use Rattle.dots_laws.proofs.GoingOn.{held_push}
-use Rattle.dots_laws.proofs.Local.{quiet_with}
-use Rattle.dots_laws.proofs.Touching.{never_live}
-use Rattle.dots_laws.proofs.Members.{In}
-use Rattle.dots_laws.proofs.Endings.{live_end}
+use Rattle.dots_history.specs.Tables.{client_of, bare, bare_mitigation, is_due}
+use Rattle.dots_history.specs.Views.{mitigations_at, mitigations_with, mitigations_of}
+use Rattle.dots_history.proofs.Adding.{adding}
+use Rattle.dots_history.proofs.Ageing.{mitigations_age}
+use Rattle.dots_history.proofs.Bare.{bare_mitigations}
+use Rattle.dots_history.proofs.GoingOn.{held_push}
+use Rattle.dots_history.proofs.Local.{quiet_with}
+use Rattle.dots_history.proofs.Touching.{never_live}
+use Rattle.dots_history.proofs.Members.{In}
+use Rattle.dots_history.proofs.Endings.{live_end}
 use Rattle.live_mitigations.specs.LiveValues.{LiveValue, SameButRows, rows_for, has_due, puts}
 use Rattle.live_mitigations.specs.LiveValues as lives
 use Rattle.live_mitigations.proofs.Room.{rows_are_live, of_domain_bare}
 use Rattle.live_mitigations.proofs.Rows.{puts_none}
-use Rattle.dots_laws.specs.Held.{acls_of}
+use Rattle.dots_history.specs.Held.{acls_of}
 use Rattle.installed_filters.specs.Filters.{FiltersValue, with_rows, rows_with, own_rows, is_row_of, scrubs_without, woken_row, lives_at, is_over, lives_at_once, stays_beside, works_by, is_working, is_waiting_for, works_at, works_at_once, works_beside, some_of, settled_row, acl_switched, activated_row, acls_by, filters_at, filters_put, filters_lost, filters_written}
 use Rattle.installed_filters.specs.HistoryRows.{Represents}
 use Rattle.installed_filters.proofs.Sieving.{filter_by, filter_twice, filter_all, map_by, all_filter, all_in}

@@ -6,7 +6,7 @@ use Rattle.std.proofs.lemmas.Bool.{false≢true, both_ways, cond_both, cond-true
 use Rattle.std.proofs.lemmas.List.{map-append}
 use Rattle.std.proofs.lemmas.List.Elements.{filter-append}
 use Rattle.ip_scope.specs.Prefix.{PrefixValue}
-use Rattle.filter_rows.specs.declared.rows.ScrubRow.{ScrubRow}
+use Rattle.acl_lists.specs.declared.rows.ScrubRow.{ScrubRow}
 use Rattle.filter_table.specs.TableRows.{row_set}
 use Rattle.dots_history.specs.declared.entry.Entry.{Entry}
 use Rattle.dots_history.specs.declared.put.Put.{Put}
@@ -17,12 +17,12 @@ use Rattle.dots_history.specs.declared.status.Status.TheVariants.{Open}
 use Rattle.dots_history.specs.Entries.{put_of, option_any}
 use Rattle.dots_history.specs.Histories.{Mitigation, tally, live, status, mitigations, held}
 use Rattle.dots_history.specs.Rows.{Row, rows_of, targets_of, works, plain_row, mid_of, plain_rows}
-use Rattle.dots_laws.specs.Tables.{Client, client_of, is_of, has_mid}
-use Rattle.dots_laws.specs.Views.{mitigations_of}
-use Rattle.dots_laws.proofs.Keyed.{fewer_left}
-use Rattle.dots_laws.proofs.Members.{In}
-use Rattle.dots_laws.proofs.Single.{one_mid, client_is_of}
-use Rattle.dots_laws.proofs.Touching.{never_live}
+use Rattle.dots_history.specs.Tables.{Client, client_of, is_of, has_mid}
+use Rattle.dots_history.specs.Views.{mitigations_of}
+use Rattle.dots_history.proofs.Keyed.{fewer_left}
+use Rattle.dots_history.proofs.Members.{In}
+use Rattle.dots_history.proofs.Single.{one_mid, client_is_of}
+use Rattle.dots_history.proofs.Touching.{never_live}
 use Rattle.live_mitigations.specs.LiveValues.{puts}
 use Rattle.held_resources.proofs.Holdings.{turned_eq}
 use Rattle.installed_filters.specs.Filters.{FiltersValue, with_rows, scrub_row_with, rows_with, rows_put, own_rows, lives_at_once, works_by, is_row_of, scrubs_without, woken_row}

@@ -16,14 +16,14 @@ use Rattle.dots_history.specs.Entries.{same_client}
 use Rattle.dots_history.specs.Histories.{Mitigation, tally, live, step, mitigations, held}
 use Rattle.dots_history.specs.Keeping.{moved}
 use Rattle.dots_history.specs.Rows.{targets_of}
-use Rattle.dots_laws.specs.Capacities.{is_registration, is_list}
-use Rattle.dots_laws.specs.Fits.{fits}
-use Rattle.dots_laws.specs.Views.{mitigations_with}
-use Rattle.dots_laws.proofs.Adding.{adding}
-use Rattle.dots_laws.proofs.Ageing.{mitigations_age}
-use Rattle.dots_laws.proofs.GoingOn.{held_push}
-use Rattle.dots_laws.proofs.Joining.{fits_so, tally_with, tally_held, tally_same, same_by}
-use Rattle.dots_laws.proofs.Keyed.{fewer_left}
+use Rattle.dots_history.specs.Capacities.{is_registration, is_list}
+use Rattle.dots_history.specs.Fits.{fits}
+use Rattle.dots_history.specs.Views.{mitigations_with}
+use Rattle.dots_history.proofs.Adding.{adding}
+use Rattle.dots_history.proofs.Ageing.{mitigations_age}
+use Rattle.dots_history.proofs.GoingOn.{held_push}
+use Rattle.dots_history.proofs.Joining.{fits_so, tally_with, tally_held, tally_same, same_by}
+use Rattle.dots_history.proofs.Keyed.{fewer_left}
 use Rattle.installed_filters.specs.HistoryRows.{KeepsLimits, has_few_prefixes}
 use Rattle.installed_filters.proofs.Sieving.{all_filter}
 use Rattle.acl_lists.specs.declared.limits.TheConstants.{MAX_RESOLVED, MAX_TARGETS}

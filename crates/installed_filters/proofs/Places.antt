@@ -5,8 +5,8 @@ use Rattle.std.specs.List.{insert, prefix_len, AllByRecursion}
 use Rattle.std.proofs.lemmas.Bool.{cond_both, le-leb}
 use Rattle.std.proofs.lemmas.List.{map-append, length-append, length-map}
 use Rattle.std.proofs.lemmas.List.Edits.{insert_end}
-use Rattle.filter_rows.specs.declared.rows.ScrubRow.{ScrubRow}
-use Rattle.filter_rows.specs.declared.rows.AclRow.{AclRow}
+use Rattle.acl_lists.specs.declared.rows.ScrubRow.{ScrubRow}
+use Rattle.acl_lists.specs.declared.rows.AclRow.{AclRow}
 use Rattle.filter_table.specs.declared.placed.PlacedAcl.{PlacedAcl}
 use Rattle.filter_table.specs.TableRows.{PlacedScrub, AreInstalled, without_mitigation, woken, scrub_set, row_set, row_woken, with_acl, without_acl, activated, renumbered, renumbered_from, number_after, place_of_scrub, scrub_at_place, place_of_acl, acl_at_place, is_of, is_named, is_of_client, waits, acl_set, row_is_of}
 use Rattle.filter_table.specs.Table.{TableValue}

@@ -15,8 +15,8 @@ use Rattle.dots_history.specs.Bounds.{prefix_count}
 use Rattle.dots_history.specs.Entries.{same_client, is_configuration}
 use Rattle.dots_history.specs.Histories.{Mitigation, tally, mitigations, held}
 use Rattle.dots_history.specs.Rows.{targets_of, works, plain_rows, acl_rows, acl_of}
-use Rattle.dots_laws.specs.Capacities.{is_registration, is_alias, is_list, has_client}
-use Rattle.dots_laws.proofs.Keyed.{by_keys, tally_filter, length_filter}
+use Rattle.dots_history.specs.Capacities.{is_registration, is_alias, is_list, has_client}
+use Rattle.dots_history.proofs.Keyed.{by_keys, tally_filter, length_filter}
 use Rattle.held_resources.specs.Tables.{Sizes, is_placed, is_known}
 use Rattle.installed_filters.specs.Filters.{scrub_row_with, rows_with, acl_row_by}
 use Rattle.installed_filters.specs.HistoryRows.{KeepsLimits, has_few_prefixes, scrub_room_of, acl_room_of}

@@ -5,7 +5,7 @@ use Rattle.std.proofs.lemmas.Bool.{false≢true, true≢false, cond_both, cond-t
 use Rattle.std.proofs.lemmas.List.{map-append}
 use Rattle.std.proofs.lemmas.List.Elements.{filter-append}
 use Rattle.dots_history.specs.Histories.{tally}
-use Rattle.dots_laws.proofs.Members.{In}
+use Rattle.dots_history.proofs.Members.{In}
 
 module _ {A : Type 0} where
   pub filter_by : (p q : A → Bool) → ((x : A) → p x ≡ q x) → (xs : List A) → filter p xs ≡ filter q xs

@@ -12,21 +12,21 @@ use Rattle.dots_history.specs.declared.change.Change.TheVariants as change
 use Rattle.dots_history.specs.Entries.{same_client, put_of, option_any, is_held, undoes, undoes_of_client, undoes_of_peer, reconfigures, resumes, undoes_loss, is_lost, is_loss}
 use Rattle.dots_history.specs.Histories.{Mitigation, held}
 use Rattle.dots_history.specs.Rows.{triggers, waits, loses, is_lost_in, works}
-use Rattle.dots_laws.specs.Views.{held_with}
-use Rattle.dots_laws.proofs.GoingOn.{held_push}
+use Rattle.dots_history.specs.Views.{held_with}
+use Rattle.dots_history.proofs.GoingOn.{held_push}
 use Rattle.live_mitigations.specs.LiveValues.{puts}
 use Rattle.installed_filters.specs.Filters.{is_waiting_for}
 use Rattle.installed_filters.proofs.Sieving.{any_by, any_filter}
 use Rattle.installed_filters.proofs.Keys.{goes_from}
 
 -- the entry says anew whether the signal of this peer is lost
-abbrev pub tells_of : ℕ → ℕ → Entry → Bool
-tells_of peer domain e = is_loss e.change && ((e.peer == peer) && (e.domain == domain))
+abbrev pub is_loss_of : ℕ → ℕ → Entry → Bool
+is_loss_of peer domain e = is_loss e.change && ((e.peer == peer) && (e.domain == domain))
 
-lost_tells : (c : Change) → is_lost c ≡ true → is_loss c ≡ true
+lost_is_loss : (c : Change) → is_lost c ≡ true → is_loss c ≡ true
 unfolding is_lost is_loss
-lost_tells change.Lost is = refl
-lost_tells _ is = absurd (false≢true is)
+lost_is_loss change.Lost is = refl
+lost_is_loss _ is = absurd (false≢true is)
 
 of_no_client : (c later : Change) → is_lost c ≡ true → undoes_of_client c later ≡ false
 unfolding is_lost undoes_of_client
@@ -39,7 +39,7 @@ of_no_session change.Lost later is = refl
 of_no_session _ later is = absurd (false≢true is)
 
 -- a loss of this peer is undone by an entry that tells of it alone
-loss_stays : (peer domain : ℕ) (x e : Entry) → loses peer domain x ≡ true → tells_of peer domain e ≡ false → undoes x e ≡ false
+loss_stays : (peer domain : ℕ) (x e : Entry) → loses peer domain x ≡ true → is_loss_of peer domain e ≡ false → undoes x e ≡ false
 unfolding undoes reconfigures resumes undoes_loss
 loss_stays peer domain x e lost other =
     let parts = and_parts (is_lost x.change) ((x.peer == peer) && (x.domain == domain)) lost in
@@ -59,7 +59,7 @@ loss_stays peer domain x e lost other =
     let same_domain = and_parts (x.domain == e.domain) (is_lost x.change && is_loss e.change) same_peer.1 in
     let tells = and_parts (is_lost x.change) (is_loss e.change) same_domain.1 in
     both_ways
-    (tells_of peer domain e)
+    (is_loss_of peer domain e)
     other
     (and_from
     (is_loss e.change)
@@ -71,19 +71,19 @@ loss_stays peer domain x e lost other =
     (eq-eqb e.peer peer (sym (eqb-true x.peer e.peer same_peer.0) ∙ eqb-true x.peer peer of.0))
     (eq-eqb e.domain domain (sym (eqb-true x.domain e.domain same_domain.0) ∙ eqb-true x.domain domain of.1)))))))
 
-loses_none : (peer domain : ℕ) (e : Entry) → tells_of peer domain e ≡ false → loses peer domain e ≡ false
+loses_none : (peer domain : ℕ) (e : Entry) → is_loss_of peer domain e ≡ false → loses peer domain e ≡ false
 loses_none peer domain e other =
     false_from_ne_true
     (loses peer domain e)
     (λ is.
     let parts = and_parts (is_lost e.change) ((e.peer == peer) && (e.domain == domain)) is in
     both_ways
-    (tells_of peer domain e)
+    (is_loss_of peer domain e)
     other
-    (and_from (is_loss e.change) ((e.peer == peer) && (e.domain == domain)) (lost_tells e.change parts.0) parts.1))
+    (and_from (is_loss e.change) ((e.peer == peer) && (e.domain == domain)) (lost_is_loss e.change parts.0) parts.1))
 
 -- by an entry that doesn't tell of it, nothing changes for a peer
-pub lost_as_before : (peer domain : ℕ) (e : Entry) (es : List Entry) → tells_of peer domain e ≡ false
+pub lost_as_before : (peer domain : ℕ) (e : Entry) (es : List Entry) → is_loss_of peer domain e ≡ false
     → is_lost_in (held_with e es) peer domain ≡ is_lost_in es peer domain
 lost_as_before peer domain e es other =
     list_any-append (loses peer domain) (filter (λ x. not (undoes x e)) es) (cond (is_held e.change) (e ∷ []) [])

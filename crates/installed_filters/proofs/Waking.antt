@@ -8,15 +8,15 @@ use Rattle.std.proofs.lemmas.Slice.Eq.{bytes_eq-Decides}
 use Rattle.acl_lists.specs.declared.acl.Acl.{Acl}
 use Rattle.acl_lists.specs.declared.acl.Activation.{Activation}
 use Rattle.acl_lists.specs.declared.acl.Activation.TheVariants.{WhenMitigating, Immediate, Deactivate}
-use Rattle.filter_rows.specs.declared.rows.AclRow.{AclRow}
+use Rattle.acl_lists.specs.declared.rows.AclRow.{AclRow}
 use Rattle.filter_table.specs.TableRows.{is_of_client, waits}
 use Rattle.dots_history.specs.declared.entry.Entry.{Entry}
 use Rattle.dots_history.specs.Entries.{same_client, ends, option_any}
 use Rattle.dots_history.specs.Histories.{Mitigation, mitigations, held}
 use Rattle.dots_history.specs.declared.status.Status.TheVariants.{Open}
 use Rattle.dots_history.specs.Rows.{acl_of, acl_row, acl_rows_of, acl_rows, works, is_active, is_mitigating}
-use Rattle.dots_laws.specs.Views.{mitigations_of}
-use Rattle.dots_laws.proofs.Members.{In}
+use Rattle.dots_history.specs.Views.{mitigations_of}
+use Rattle.dots_history.proofs.Members.{In}
 use Rattle.held_resources.proofs.Holdings.{turned_eq, turned_bytes}
 use Rattle.installed_filters.specs.Filters.{some_of, settled_row, acl_switched, activated_row, active_by, acl_row_by, lives_at_once, stays_beside}
 use Rattle.installed_filters.proofs.Sieving.{any_by, any_filter, any_left, any_less, any_unless_in}

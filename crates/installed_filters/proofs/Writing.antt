@@ -6,19 +6,19 @@ use Rattle.std.proofs.lemmas.Bool.{false≢true, both_ways, cond_both, cond-true
 use Rattle.std.proofs.lemmas.Option.{none-some, same_Some}
 use Rattle.std.proofs.lemmas.Slice.Eq.{bytes_eq-Decides}
 use Rattle.acl_lists.specs.declared.acl.Acl.{Acl}
-use Rattle.filter_rows.specs.declared.rows.AclRow.{AclRow}
+use Rattle.acl_lists.specs.declared.rows.AclRow.{AclRow}
 use Rattle.filter_table.specs.TableRows.{is_of_client}
 use Rattle.dots_history.specs.declared.entry.Entry.{Entry}
 use Rattle.dots_history.specs.declared.change.Change.{Change}
 use Rattle.dots_history.specs.declared.change.Change.TheVariants as change
 use Rattle.dots_history.specs.Entries.{same_client, is_held, undoes, undoes_of_client, undoes_of_peer, undoes_acl, undoes_loss, reconfigures, resumes, is_lost, is_loss}
 use Rattle.dots_history.specs.Rows.{acl_of}
-use Rattle.dots_laws.specs.Tables.{Client, client_of, is_of}
-use Rattle.dots_laws.specs.Views.{held_with}
-use Rattle.dots_laws.proofs.Members.{In, any_of}
-use Rattle.dots_laws.proofs.Single.{of_itself}
-use Rattle.dots_laws.specs.Held.{acls_of, written}
-use Rattle.dots_laws.proofs.Written.{other_way}
+use Rattle.dots_history.specs.Tables.{Client, client_of, is_of}
+use Rattle.dots_history.specs.Views.{held_with}
+use Rattle.dots_history.proofs.Members.{In, any_of}
+use Rattle.dots_history.proofs.Single.{of_itself}
+use Rattle.dots_history.specs.Held.{acls_of, written}
+use Rattle.dots_history.proofs.Written.{other_way}
 use Rattle.installed_filters.specs.Filters.{acl_row_by, is_named_row, acls_by}
 use Rattle.installed_filters.proofs.Sieving.{filter_all}
 use Rattle.installed_filters.proofs.Waking.{acls_by_client}

@@ -4,8 +4,8 @@ use Rattle.std.specs.List.{list_any, AllByRecursion}
 use Rattle.acl_lists.specs.declared.acl.Acl.{Acl}
 use Rattle.acl_lists.specs.declared.acl.Activation.{Activation}
 use Rattle.acl_lists.specs.declared.acl.Activation.TheVariants.{WhenMitigating, Immediate, Deactivate}
-use Rattle.filter_rows.specs.declared.rows.ScrubRow.{ScrubRow}
-use Rattle.filter_rows.specs.declared.rows.AclRow.{AclRow}
+use Rattle.acl_lists.specs.declared.rows.ScrubRow.{ScrubRow}
+use Rattle.acl_lists.specs.declared.rows.AclRow.{AclRow}
 use Rattle.filter_table.specs.declared.placed.PlacedAcl.{PlacedAcl}
 use Rattle.filter_table.specs.TableRows.{PlacedScrub, is_of_client, row_is_of, row_set, waits}
 use Rattle.filter_table.specs.Table.{TableValue}

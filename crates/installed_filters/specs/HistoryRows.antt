@@ -8,7 +8,7 @@ use Rattle.dots_history.specs.Bounds.{prefix_count}
 use Rattle.dots_history.specs.Entries.{same_client}
 use Rattle.dots_history.specs.Histories.{Mitigation, tally, mitigations, held}
 use Rattle.dots_history.specs.Rows.{plain_rows, acl_rows, targets_of}
-use Rattle.dots_laws.specs.Capacities.{is_registration, is_list}
+use Rattle.dots_history.specs.Capacities.{is_registration, is_list}
 use Rattle.installed_filters.specs.Filters.{FiltersValue}
 
 pub record Represents (filters : FiltersValue) (t : ℕ) (entries : List Entry) : Type 0 where

@@ -7,9 +7,9 @@ ghost use Rattle.filter_table.specs.TableRows.{row_woken};
 ghost use Rattle.installed_filters.specs.HistoryRows.{Represents, HasRoom};
 
 use crate::placing::fresh_place;
+use acl_lists::{AclRow, ScrubRow};
 use dots_lists::{Name, NoMemory};
 use dots_settings::Settings;
-use filter_rows::{AclRow, ScrubRow};
 use filter_table::FilterTable;
 use std::alloc::Global;
 use std::marker::Model;

@@ -5,9 +5,8 @@ ghost use Rattle.dots_history.specs.Rows.{acl_of};
 ghost use Rattle.installed_filters.specs.Filters.{with_rows, acls_without, acls_without_all, acl_switched, active_by, list_put, acls_by, filters_written};
 
 use crate::filters::InstalledFilters;
-use acl_lists::{Acl, Activation};
+use acl_lists::{Acl, AclRow, Activation};
 use dots_history::{Change, Entry};
-use filter_rows::AclRow;
 
 impl InstalledFilters {
     /// For an entry that puts no mitigation: the rows of the lists go that it takes away, and that of the list that it writes,

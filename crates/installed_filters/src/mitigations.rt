@@ -8,8 +8,8 @@ ghost use Rattle.installed_filters.specs.Filters.{with_rows, rows_put, own_rows,
 
 use crate::filters::InstalledFilters;
 use crate::working::{is_working, works};
+use acl_lists::ScrubRow;
 use dots_history::{Entry, Status, is_live};
-use filter_rows::ScrubRow;
 use held_resources::HeldResources;
 use live_mitigations::Row;
 

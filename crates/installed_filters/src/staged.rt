@@ -5,10 +5,9 @@ ghost use Rattle.dots_history.specs.Rows.{acl_of, mid_of, targets_of};
 ghost use Rattle.dots_history.specs.declared.change.Change.TheVariants as change;
 ghost use Rattle.installed_filters.specs.Filters.{rows_put, rows_of_target, scrub_row_with, list_put, acl_row_with, needs_rows};
 
-use acl_lists::Acl;
+use acl_lists::{Acl, AclRow, ScrubRow};
 use dots_history::{Change, Entry, Put, Target};
 use dots_lists::NoMemory;
-use filter_rows::{AclRow, ScrubRow};
 use ip_scope::Prefix;
 use std::alloc::Global;
 use std::marker::Model;

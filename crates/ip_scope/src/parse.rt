@@ -10,8 +10,8 @@ use crate::address::Addr;
 use crate::bad_prefix::BadPrefix;
 use crate::family::Family;
 use crate::prefix::Prefix;
+use dots_lists::parse_decimal;
 use memchr::memrchr;
-use plain_text::parse_decimal;
 use std::net::{Ipv4Addr, Ipv6Addr};
 
 /// What stands between the address and the length.

@@ -1,3 +1,4 @@
+pub mod Turns
 pub mod Again
 pub mod AliasAgain
 pub mod ListAgain

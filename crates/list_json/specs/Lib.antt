@@ -1,3 +1,4 @@
+pub mod JsonFaultText
 pub mod Steps
 pub mod Shapes
 pub mod Values

@@ -11,17 +11,23 @@
 //! Start reading at `specs/Aliases.antt` and `specs/Lists.antt`, which say member by member what a value is and in which order its
 //! faults come. `specs/AliasPrinting.antt` and `specs/ListPrinting.antt` say what is printed. [`check_members`], [`name_of`] and
 //! [`name_value`] serve the bodies that an alias or a list stands in.
+//!
+//! [`read_json`] gives the value that `serde_json` reads from the same bytes, and refuses what it refuses, in a room that is kept from one text
+//! to the next. `Value::from_slice` makes a room of 16 kilobytes for each text, which takes longer than to read a short one.
 #![tactic(auto)]
 
 mod alias_members;
 mod alias_reading;
 mod alias_writing;
 mod fault;
+mod json_fault;
 pub mod laws;
 mod list_reading;
 mod list_writing;
 mod matches;
+mod number;
 mod operator;
+mod reading;
 mod shape;
 mod values;
 mod writing;
@@ -29,8 +35,10 @@ mod writing;
 pub use alias_reading::alias_of;
 pub use alias_writing::alias_value;
 pub use fault::{ListFault, Member};
+pub use json_fault::JsonFault;
 pub use list_reading::acl_of;
 pub use list_writing::acl_value;
+pub use reading::{JsonRoom, read_json};
 pub use shape::{Shape, check_members};
 pub use values::name_of;
 pub use writing::name_value;

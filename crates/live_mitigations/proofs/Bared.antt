@@ -7,10 +7,10 @@ use Rattle.dots_history.specs.declared.status.Status.TheVariants.{Ended, Open, W
 use Rattle.dots_history.specs.Entries.{same_client, ends, withdraws, runs}
 use Rattle.dots_history.specs.Histories.{Mitigation, live, status, step}
 use Rattle.dots_history.specs.Keeping.{is_open}
-use Rattle.dots_laws.specs.Tables.{bare}
+use Rattle.dots_history.specs.Tables.{bare}
 use Rattle.live_mitigations.specs.Rows.{LiveTable, is_left}
 use Rattle.live_mitigations.specs.declared.slots.MitigationSlots.{MitigationSlots}
-use Rattle.dots_laws.specs.Filed.{Filed, entry_of}
+use Rattle.dots_history.specs.Filed.{Filed, entry_of}
 use Rattle.live_mitigations.specs.Slots.{withdrawal_in, slots_by, live_slots, slots_moved, if_left, slots_left, slots_first}
 use Rattle.live_mitigations.specs.LiveValues.{filed_alone, SlotsAre}
 

@@ -6,7 +6,7 @@ use Rattle.std.proofs.lemmas.Bool.{false≢true}
 use Rattle.live_mitigations.specs.declared.slots.MitigationSlots.{MitigationSlots}
 use Rattle.dots_history.specs.Histories.{Mitigation, live}
 use Rattle.live_mitigations.specs.Rows.{is_left}
-use Rattle.dots_laws.specs.Filed.{Filed}
+use Rattle.dots_history.specs.Filed.{Filed}
 use Rattle.live_mitigations.specs.Slots.{beside, replaced, if_live_at, if_left, slots_moved}
 
 -- one more from the back

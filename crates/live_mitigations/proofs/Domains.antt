@@ -11,12 +11,12 @@ use Rattle.dots_history.specs.Entries.{ends, withdraws, same_client, put_of, opt
 use Rattle.dots_history.specs.Histories.{live, status, step}
 use Rattle.dots_history.specs.Keeping.{is_open}
 use Rattle.dots_history.specs.Slots.{Rises}
-use Rattle.dots_laws.specs.KeptPlaces.{at_places, union, live_places, withdrawal_places}
-use Rattle.dots_laws.proofs.Apart.{other_domain}
-use Rattle.dots_laws.proofs.Touching.{never_live, untouched}
+use Rattle.dots_history.specs.KeptPlaces.{at_places, union, live_places, withdrawal_places}
+use Rattle.dots_history.proofs.Apart.{other_domain}
+use Rattle.dots_history.proofs.Touching.{never_live, untouched}
 use Rattle.live_mitigations.specs.LiveValues.{is_inside, filed_alone, SlotsAre}
 use Rattle.live_mitigations.specs.declared.slots.MitigationSlots.{MitigationSlots}
-use Rattle.dots_laws.specs.Filed.{Filed, entry_of, slot_of}
+use Rattle.dots_history.specs.Filed.{Filed, entry_of, slot_of}
 use Rattle.live_mitigations.specs.Slots.{withdrawal_in, slots_by, live_slots}
 use Rattle.live_mitigations.specs.Rows.{LiveTable, slots_of}
 use Rattle.live_mitigations.specs.Numbers.{numbers_of, numbers_in, all_numbers}

@@ -6,9 +6,9 @@ use Rattle.std.proofs.lemmas.Bool.{false≢true, cond_both, cases_lt, lt-ltb, le
 use Rattle.dots_history.specs.declared.entry.Entry.{Entry}
 use Rattle.dots_history.specs.declared.status.Status.{Status}
 use Rattle.dots_history.specs.Histories.{Mitigation, live}
-use Rattle.dots_laws.specs.Tables.{End, Over, Until, Never, end_of, is_before, is_due}
-use Rattle.dots_laws.specs.Views.{mitigations_at}
-use Rattle.dots_laws.proofs.Endings.{live_end, none_due}
+use Rattle.dots_history.specs.Tables.{End, Over, Until, Never, end_of, is_before, is_due}
+use Rattle.dots_history.specs.Views.{mitigations_at}
+use Rattle.dots_history.proofs.Endings.{live_end, none_due}
 use Rattle.live_mitigations.specs.Ends.{never, second_of, end_second, first_end}
 
 before_second : (t : ℕ) (end : End) → t < never → is_before t end ≡ nat_lt t (second_of end)

@@ -9,9 +9,9 @@ use Rattle.dots_history.specs.declared.status.Status.TheVariants.{Open}
 use Rattle.dots_history.specs.Entries.{withdraws}
 use Rattle.dots_history.specs.Histories.{Mitigation, live, status, step, mitigations}
 use Rattle.dots_history.specs.Keeping.{is_open}
-use Rattle.dots_laws.proofs.Lasting.{live_no_more, dead_step, status-append}
+use Rattle.dots_history.proofs.Lasting.{live_no_more, dead_step, status-append}
 use Rattle.live_mitigations.specs.declared.slots.MitigationSlots.{MitigationSlots}
-use Rattle.dots_laws.specs.Filed.{Filed, entry_of}
+use Rattle.dots_history.specs.Filed.{Filed, entry_of}
 use Rattle.live_mitigations.specs.Slots.{withdrawal_in, slots_by, live_slots, beside, if_live_at, slots_at, slots_moved, if_left, slots_left, slots_first}
 
 abbrev pub Keep : Type 0

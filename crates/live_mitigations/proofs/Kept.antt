@@ -10,10 +10,10 @@ use Rattle.dots_history.specs.Entries.{ends, withdraws}
 use Rattle.dots_history.specs.Histories.{Mitigation, live, status, step}
 use Rattle.dots_history.specs.Keeping.{is_open, is_first, moved, pass, kept_places}
 use Rattle.dots_history.specs.Slots.{Rises}
-use Rattle.dots_laws.specs.KeptPlaces.{at_places, union, live_places, withdrawal_places}
-use Rattle.dots_laws.proofs.Keeping.{Keeper}
+use Rattle.dots_history.specs.KeptPlaces.{at_places, union, live_places, withdrawal_places}
+use Rattle.dots_history.proofs.Keeping.{Keeper}
 use Rattle.live_mitigations.specs.declared.slots.MitigationSlots.{MitigationSlots}
-use Rattle.dots_laws.specs.Filed.{Filed, entry_of, slot_of}
+use Rattle.dots_history.specs.Filed.{Filed, entry_of, slot_of}
 use Rattle.live_mitigations.specs.Slots.{withdrawal_in, slots_by, live_slots}
 use Rattle.live_mitigations.specs.Numbers.{numbers_of, numbers_in}
 use Rattle.live_mitigations.proofs.Members.{has, any_union, any_append, union_same}

@@ -9,13 +9,13 @@ use Rattle.std.proofs.lemmas.Bool.{cases_eq, cond-true, cond-false, eq-eqb, ne_e
 use Rattle.dots_settings.specs.declared.limits.Limits.{Limits}
 use Rattle.dots_history.specs.declared.entry.Entry.{Entry}
 use Rattle.dots_history.specs.Histories.{Mitigation, Within, tally, mitigations, alone}
-use Rattle.dots_laws.specs.Filed.{Filed}
-use Rattle.dots_laws.specs.Tables.{Client, is_of, has_mid, AreApart, bare, is_due}
-use Rattle.dots_laws.specs.Views.{mitigations_at, mitigations_with}
-use Rattle.dots_laws.proofs.Ageing.{mitigations_age}
-use Rattle.dots_laws.proofs.Adding.{adding}
-use Rattle.dots_laws.proofs.Endings.{none_due}
-use Rattle.dots_laws.proofs.Single.{one_mid, live_apart}
+use Rattle.dots_history.specs.Filed.{Filed}
+use Rattle.dots_history.specs.Tables.{Client, is_of, has_mid, AreApart, bare, is_due}
+use Rattle.dots_history.specs.Views.{mitigations_at, mitigations_with}
+use Rattle.dots_history.proofs.Ageing.{mitigations_age}
+use Rattle.dots_history.proofs.Adding.{adding}
+use Rattle.dots_history.proofs.Endings.{none_due}
+use Rattle.dots_history.proofs.Single.{one_mid, live_apart}
 use Rattle.live_mitigations.specs.Ends.{never, first_end}
 use Rattle.live_mitigations.specs.Rows.{LiveTable, AreEmpty, rows_or_none, rows_at, update, count_rows, noted, grown, moved_all}
 use Rattle.live_mitigations.specs.LiveValues.{LiveValue, rows_for, count_live, has_due, puts, is_inside, AreTables, Represents, ComesTo, SameButRows}

@@ -5,7 +5,7 @@ use Rattle.std.specs.List.{list_any}
 use Rattle.std.proofs.lemmas.Bool.{cases_order, cond_both, false≢true, ne_eqb, eq-eqb, eqb-true}
 use Rattle.dots_history.specs.Slots.{Rises, placed}
 use Rattle.dots_history.proofs.Placing.{rises_placed}
-use Rattle.dots_laws.specs.KeptPlaces.{union}
+use Rattle.dots_history.specs.KeptPlaces.{union}
 
 abbrev pub has : ℕ → List ℕ → Bool
 has slot slots = list_any (λ other. other == slot) slots

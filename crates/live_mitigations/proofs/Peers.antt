@@ -9,10 +9,10 @@ use Rattle.dots_history.specs.declared.put.Put.{Put}
 use Rattle.dots_history.specs.declared.status.Status.TheVariants.{Open}
 use Rattle.dots_history.specs.Entries.{put_of, option_any}
 use Rattle.dots_history.specs.Histories.{Mitigation, live, status, mitigations}
-use Rattle.dots_laws.specs.Tables.{bare, bare_mitigation}
-use Rattle.dots_laws.specs.Views.{mitigations_of}
-use Rattle.dots_laws.proofs.Touching.{never_live}
-use Rattle.dots_laws.proofs.Bare.{bare_mitigations}
+use Rattle.dots_history.specs.Tables.{bare, bare_mitigation}
+use Rattle.dots_history.specs.Views.{mitigations_of}
+use Rattle.dots_history.proofs.Touching.{never_live}
+use Rattle.dots_history.proofs.Bare.{bare_mitigations}
 use Rattle.live_mitigations.specs.Rows.{LiveTable, rows_or_none, any_row}
 use Rattle.live_mitigations.specs.LiveValues.{LiveValue, puts, is_inside, Represents}
 use Rattle.live_mitigations.proofs.Updates.{there_within}

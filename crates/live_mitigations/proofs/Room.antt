@@ -9,10 +9,10 @@ use Rattle.dots_history.specs.declared.status.Status.TheVariants.{Ended, Open, W
 use Rattle.dots_history.specs.Entries.{same_client, runs}
 use Rattle.dots_history.specs.Histories.{Mitigation, live, tally, mitigations}
 use Rattle.dots_history.specs.Keeping.{moved}
-use Rattle.dots_laws.specs.Tables.{bare, bare_mitigation}
-use Rattle.dots_laws.specs.Views.{mitigations_at, mitigations_with, mitigations_of}
-use Rattle.dots_laws.proofs.Apart.{apart}
-use Rattle.dots_laws.proofs.Bare.{bare_mitigations}
+use Rattle.dots_history.specs.Tables.{bare, bare_mitigation}
+use Rattle.dots_history.specs.Views.{mitigations_at, mitigations_with, mitigations_of}
+use Rattle.dots_history.proofs.Apart.{apart}
+use Rattle.dots_history.proofs.Bare.{bare_mitigations}
 use Rattle.live_mitigations.specs.Rows.{LiveTable, rows_or_none, of_entry, is_left, lives_at_first}
 use Rattle.live_mitigations.specs.LiveValues.{LiveValue, AreTables, rows_for, Represents, keeps_limits, has_live_room}
 use Rattle.conflict_rules.specs.Lives.{live_of, lives_of}

@@ -9,9 +9,9 @@ use Rattle.dots_history.specs.declared.put.Put.{Put}
 use Rattle.dots_history.specs.Entries.{same_client, put_of, option_any, ends, withdraws}
 use Rattle.dots_history.specs.Histories.{Mitigation, live, step}
 use Rattle.dots_history.specs.Keeping.{moved}
-use Rattle.dots_laws.specs.Tables.{bare}
-use Rattle.dots_laws.specs.Views.{mitigations_at, mitigations_with}
-use Rattle.dots_laws.proofs.Touching.{never_live}
+use Rattle.dots_history.specs.Tables.{bare}
+use Rattle.dots_history.specs.Views.{mitigations_at, mitigations_with}
+use Rattle.dots_history.proofs.Touching.{never_live}
 use Rattle.live_mitigations.specs.Rows.{of_entry, moved_all}
 use Rattle.live_mitigations.specs.LiveValues.{puts}
 

@@ -11,11 +11,11 @@ use Rattle.dots_history.specs.declared.status.Status.TheVariants.{Open}
 use Rattle.dots_history.specs.Entries.{runs}
 use Rattle.dots_history.specs.Histories.{Mitigation, live, step, mitigations, alone}
 use Rattle.dots_history.specs.Keeping.{moved}
-use Rattle.dots_laws.specs.Filed.{Filed, entry_of}
-use Rattle.dots_laws.specs.Tables.{bare, is_due}
-use Rattle.dots_laws.specs.Views.{mitigations_at, mitigations_with}
-use Rattle.dots_laws.proofs.Endings.{none_due}
-use Rattle.dots_laws.proofs.Touching.{never_live}
+use Rattle.dots_history.specs.Filed.{Filed, entry_of}
+use Rattle.dots_history.specs.Tables.{bare, is_due}
+use Rattle.dots_history.specs.Views.{mitigations_at, mitigations_with}
+use Rattle.dots_history.proofs.Endings.{none_due}
+use Rattle.dots_history.proofs.Touching.{never_live}
 use Rattle.live_mitigations.specs.declared.slots.MitigationSlots.{MitigationSlots}
 use Rattle.live_mitigations.specs.Numbers.{renumbered, table_renumbered, live_renumbered}
 use Rattle.live_mitigations.specs.Rows.{LiveTable, AreEmpty, rows_or_none, rows_at, slots_or_none, slots_of, update, aged, noted, of_entry}

@@ -1,7 +1,7 @@
 -- Slots put into a list one after the other.
 use Rattle.std.proofs.Common.{◌≡◌, ℕ, zero, suc, ◌+◌, ◌<◌, List, [], refl, ◌∷◌, length, drop, get_or, sym, ap, ◌∙◌}
-use Rattle.dots_laws.specs.KeptPlaces.{union}
-use Rattle.dots_laws.proofs.Unions.{drop_next, union_swap, union_append}
+use Rattle.dots_history.specs.KeptPlaces.{union}
+use Rattle.dots_history.proofs.Unions.{drop_next, union_swap, union_append}
 use Rattle.live_mitigations.specs.declared.slots.MitigationSlots.{MitigationSlots}
 use Rattle.live_mitigations.specs.Rows.{LiveTable}
 use Rattle.live_mitigations.specs.Numbers.{numbers_of, numbers_in, all_numbers}

@@ -1,7 +1,7 @@
 -- When a mitigation is over, as a second.
 use Rattle.std.specs.Prelude.{ℕ, ℤ, pos, negsuc, min, List, [], ◌∷◌}
 use Rattle.dots_history.specs.Histories.{Mitigation}
-use Rattle.dots_laws.specs.Tables.{End, Over, Until, Never, end_of}
+use Rattle.dots_history.specs.Tables.{End, Over, Until, Never, end_of}
 
 -- the second that is never reached, the last of a u64
 abbrev pub never : ℕ

@@ -6,9 +6,9 @@ use Rattle.dots_history.specs.declared.entry.Entry.{Entry}
 use Rattle.dots_history.specs.declared.put.Put.{Put}
 use Rattle.dots_history.specs.Entries.{same_client, put_of, option_any}
 use Rattle.dots_history.specs.Histories.{Mitigation, Within, tally, mitigations, alone}
-use Rattle.dots_laws.specs.Filed.{Filed}
-use Rattle.dots_laws.specs.Tables.{bare, is_due}
-use Rattle.dots_laws.specs.Views.{mitigations_at}
+use Rattle.dots_history.specs.Filed.{Filed}
+use Rattle.dots_history.specs.Tables.{bare, is_due}
+use Rattle.dots_history.specs.Views.{mitigations_at}
 use Rattle.live_mitigations.specs.Rows.{LiveTable, rows_at, slots_of, count_rows, is_left, lives_at_first}
 use Rattle.live_mitigations.specs.Slots.{live_slots, slots_at}
 

@@ -5,9 +5,9 @@ use Rattle.dots_history.specs.declared.entry.Entry.{Entry}
 use Rattle.dots_history.specs.declared.status.Status.TheVariants.{Open}
 use Rattle.dots_history.specs.Histories.{Mitigation, live, step}
 use Rattle.dots_history.specs.Keeping.{moved}
-use Rattle.dots_laws.specs.Filed.{Filed}
-use Rattle.dots_laws.specs.Tables.{bare}
-use Rattle.dots_laws.specs.Views.{mitigations_at, mitigations_with}
+use Rattle.dots_history.specs.Filed.{Filed}
+use Rattle.dots_history.specs.Tables.{bare}
+use Rattle.dots_history.specs.Views.{mitigations_at, mitigations_with}
 use Rattle.lifetime_clock.specs.Times.{Times, IsMap, time_of}
 use Rattle.live_mitigations.specs.declared.slots.MitigationSlots.{MitigationSlots}
 use Rattle.live_mitigations.specs.Ends.{first_end}

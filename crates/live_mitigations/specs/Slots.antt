@@ -6,7 +6,7 @@ use Rattle.dots_history.specs.declared.status.Status.TheVariants.{Open}
 use Rattle.dots_history.specs.Entries.{withdraws}
 use Rattle.dots_history.specs.Histories.{Mitigation, sieve, live, status, step}
 use Rattle.dots_history.specs.Keeping.{is_open}
-use Rattle.dots_laws.specs.Filed.{Filed, entry_of}
+use Rattle.dots_history.specs.Filed.{Filed, entry_of}
 use Rattle.live_mitigations.specs.declared.slots.MitigationSlots.{MitigationSlots}
 
 -- The slot of the first of these that withdraws a mitigation of this status, where there is one; or that found before.

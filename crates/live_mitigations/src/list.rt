@@ -6,11 +6,11 @@ ghost use Rattle.dots_history.specs.Entries.{put_of};
 ghost use Rattle.dots_history.specs.Keeping.{moved};
 ghost use Rattle.dots_history.specs.Rows.{triggers, waits};
 ghost use Rattle.dots_history.specs.declared.status.Status.TheVariants.{Open};
-ghost use Rattle.dots_laws.specs.Tables.{bare};
-ghost use Rattle.dots_laws.specs.Views.{mitigations_at, mitigations_with};
+ghost use Rattle.dots_history.specs.Tables.{bare};
+ghost use Rattle.dots_history.specs.Views.{mitigations_at, mitigations_with};
 ghost use Rattle.live_mitigations.specs.Ends.{never, first_end};
 ghost use Rattle.dots_history.specs.Slots.{Rises};
-ghost use Rattle.dots_laws.specs.KeptPlaces.{union};
+ghost use Rattle.dots_history.specs.KeptPlaces.{union};
 ghost use Rattle.live_mitigations.specs.Rows.{aged, noted, grown, of_entry};
 ghost use Rattle.live_mitigations.specs.Numbers.{numbers_in, table_renumbered};
 

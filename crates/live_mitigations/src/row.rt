@@ -7,7 +7,7 @@ ghost use Rattle.dots_history.specs.Rows.{triggers, waits};
 ghost use Rattle.dots_history.specs.Keeping.{moved};
 ghost use Rattle.dots_history.specs.declared.status.Status.TheVariants.{Open};
 ghost use Rattle.dots_history.specs.declared.change.Change.TheVariants as change;
-ghost use Rattle.dots_laws.specs.Tables.{bare, end_of_grant};
+ghost use Rattle.dots_history.specs.Tables.{bare, end_of_grant};
 ghost use Rattle.live_mitigations.specs.Ends.{never, second_of, end_second};
 ghost use Rattle.live_mitigations.specs.Rows.{is_left};
 ghost use Rattle.conflict_rules.specs.Lives.{put_or_nothing};

@@ -3,7 +3,7 @@
 ghost use Rattle.std.specs.Prelude.{◌≡◌, ◌<◌, ◌≤◌, ◌++◌, [], length, map, option_map, vec_capacity, IfOk};
 ghost use Rattle.dots_history.specs.Keeping.{is_open};
 ghost use Rattle.dots_history.specs.Slots.{Rises, number_in};
-ghost use Rattle.dots_laws.specs.KeptPlaces.{union};
+ghost use Rattle.dots_history.specs.KeptPlaces.{union};
 ghost use Rattle.live_mitigations.specs.Slots.{slots_at, if_live_at, slots_moved, if_left, slots_left, slots_first, replaced};
 ghost use Rattle.live_mitigations.specs.Numbers.{numbers_of, numbers_in, renumbered};
 

@@ -2,11 +2,11 @@
 
 ghost use Rattle.std.specs.Prelude.{◌≡◌, ℕ, ◌<◌, ◌≤◌, ◌==◌, ◌&&◌, length, map, IfOk, IfSome, IfNone, Some, slice_get};
 ghost use Rattle.dots_history.specs.Rows.{triggers, waits};
-ghost use Rattle.dots_laws.specs.Tables.{bare};
-ghost use Rattle.dots_laws.specs.Views.{mitigations_with};
+ghost use Rattle.dots_history.specs.Tables.{bare};
+ghost use Rattle.dots_history.specs.Views.{mitigations_with};
 ghost use Rattle.live_mitigations.specs.Ends.{never, first_end};
 ghost use Rattle.dots_history.specs.Slots.{Rises};
-ghost use Rattle.dots_laws.specs.KeptPlaces.{union};
+ghost use Rattle.dots_history.specs.KeptPlaces.{union};
 ghost use Rattle.live_mitigations.specs.Rows.{LiveTable, AreEmpty, aged, noted, grown, update, rows_at, any_row};
 ghost use Rattle.live_mitigations.specs.Numbers.{all_numbers, table_renumbered};
 

@@ -5,10 +5,10 @@ use Rattle.ip_scope.specs.Prefix.{PrefixValue}
 use Rattle.acl_lists.specs.declared.ace.Ace.{Ace}
 use Rattle.acl_lists.specs.declared.packet.Packet.{Packet}
 use Rattle.acl_lists.specs.Matching.{ace_matches}
-use Rattle.filter_rows.specs.declared.rows.ScrubRow.{ScrubRow}
-use Rattle.filter_rows.specs.declared.rows.AclRow.{AclRow}
-use Rattle.filter_rows.specs.Matching.{is_scrubbed}
-use Rattle.filter_rows.specs.Fates.{Fate, Pass, Accepted, Dropped, Scrubbed}
+use Rattle.acl_lists.specs.declared.rows.ScrubRow.{ScrubRow}
+use Rattle.acl_lists.specs.declared.rows.AclRow.{AclRow}
+use Rattle.acl_lists.specs.RowMatching.{is_scrubbed}
+use Rattle.acl_lists.specs.Fates.{Fate, Pass, Accepted, Dropped, Scrubbed}
 use Rattle.nft_script.specs.declared.timed.TimedRow.{TimedRow}
 use Rattle.nft_script.specs.declared.timed.TimedList.{TimedList}
 use Rattle.nft_script.specs.Falling.{falling}

@@ -16,8 +16,8 @@ use Rattle.ip_scope.specs.PrefixText.{prefix_text}
 use Rattle.acl_lists.specs.declared.ace.Ace.{Ace}
 use Rattle.acl_lists.specs.declared.port_test.PortTest.{PortTest}
 use Rattle.acl_lists.specs.declared.port_test.PortTest.TheVariants.{Any, Eq, Neq, Lte, Gte, Range}
-use Rattle.filter_rows.specs.declared.rows.ScrubRow.{ScrubRow}
-use Rattle.filter_rows.specs.declared.rows.AclRow.{AclRow}
+use Rattle.acl_lists.specs.declared.rows.ScrubRow.{ScrubRow}
+use Rattle.acl_lists.specs.declared.rows.AclRow.{AclRow}
 use Rattle.dots_settings.specs.Settings.{SettingsValue}
 use Rattle.dots_settings.specs.Lookups.{prefixes_of}
 use Rattle.nft_script.specs.declared.timed.TimedRow.{TimedRow}

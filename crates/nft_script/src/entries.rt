@@ -9,10 +9,9 @@ use crate::parts::{
     add_timeout, add_words,
 };
 use crate::timed::TimedList;
-use acl_lists::{Ace, PortTest};
+use acl_lists::{Ace, AclRow, PortTest};
 use dots_lists::NoMemory;
 use dots_settings::Settings;
-use filter_rows::AclRow;
 use ip_scope::{Family, Prefix};
 
 /// Adds the active lists, numbered from 1.

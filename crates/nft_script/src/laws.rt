@@ -3,7 +3,7 @@
 ghost use Rattle.std.specs.Prelude.{◌≡◌, ℕ, List};
 ghost use Rattle.ip_scope.specs.Prefix.{PrefixValue};
 ghost use Rattle.acl_lists.specs.declared.packet.Packet.{Packet};
-ghost use Rattle.filter_rows.specs.Fates.{fate_by_rows};
+ghost use Rattle.acl_lists.specs.Fates.{fate_by_rows};
 ghost use Rattle.nft_script.specs.declared.timed.TimedRow.{TimedRow};
 ghost use Rattle.nft_script.specs.declared.timed.TimedList.{TimedList};
 ghost use Rattle.nft_script.specs.Rules.{rules_of, fate_by_rules, rows_in, lists_in};

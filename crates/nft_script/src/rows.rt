@@ -9,8 +9,8 @@ use crate::parts::{
     add_timeout, add_words,
 };
 use crate::timed::TimedRow;
+use acl_lists::ScrubRow;
 use dots_lists::NoMemory;
-use filter_rows::ScrubRow;
 use ip_scope::PortRange;
 
 /// Adds the rows in their order, numbered from 1.

@@ -1,4 +1,4 @@
-use filter_rows::{AclRow, ScrubRow};
+use acl_lists::{AclRow, ScrubRow};
 
 /// A row of a mitigation, with its end.
 #[derive(Clone, Copy, Drop)]

@@ -2,8 +2,8 @@
 use Rattle.std.specs.Prelude.{ℕ, ℤ, Bool, true, false, List, [], ◌∷◌, ◌++◌, map}
 use Rattle.acl_lists.specs.declared.asked.Asked.{Asked}
 use Rattle.cbor_profile.specs.Tree.{Tree, unsigned, text, array, boolean, items_of}
-use Rattle.dots_heads.specs.declared.request.Content.{Content}
-use Rattle.dots_heads.specs.declared.request.Content.TheVariants.{All, Config, State}
+use Rattle.dots_keys.specs.declared.head_request.Content.{Content}
+use Rattle.dots_keys.specs.declared.head_request.Content.TheVariants.{All, Config, State}
 use Rattle.ip_scope.specs.Ports.{Ports}
 use Rattle.ip_scope.specs.Prefix.{PrefixValue}
 use Rattle.ip_scope.specs.PrefixText.{prefix_text}

@@ -18,7 +18,7 @@ mod session;
 mod targets;
 
 pub use conflict::{Conflict, ConflictCause};
-pub use dots_heads::Content;
+pub use dots_keys::Content;
 pub use reply::{Reply, body_of};
 pub use request::request_body;
 pub use scope::{MitigationView, ViewList};

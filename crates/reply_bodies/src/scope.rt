@@ -14,7 +14,7 @@ use crate::keys::{
 use crate::targets::put_asked;
 use acl_lists::Asked;
 use cbor_profile::{Item, ItemList, PairList};
-use dots_heads::Content;
+use dots_keys::Content;
 use dots_lists::{List, NoMemory};
 use std::alloc::Global;
 

@@ -5,16 +5,16 @@ use Rattle.std.proofs.lemmas.Option.{none-some, same_Some}
 use Rattle.std.proofs.lemmas.Bool.{false≢true}
 use Rattle.dots_history.specs.declared.entry.Entry.{Entry}
 use Rattle.dots_history.specs.declared.change.Change.{Change}
-use Rattle.dots_laws.specs.Fits.{is_of_mitigations}
+use Rattle.dots_history.specs.Fits.{is_of_mitigations}
 use Rattle.http_cut.specs.Reply.{status_line}
 use Rattle.data_channel.specs.declared.replies.RestBody.{RestBody}
 use Rattle.data_channel.specs.declared.request.RestRequest.{RestRequest}
 use Rattle.data_channel.specs.declared.request.RestRequest.TheVariants as request
-use Rattle.rest_judging.specs.declared.decision.RestDecision.{RestDecision}
-use Rattle.rest_judging.specs.declared.decision.RestDecision.TheVariants as decision
-use Rattle.rest_judging.specs.Asking.{verb_of, kind_of, cuid_of}
-use Rattle.rest_judging.specs.Decisions.{is_accepted}
-use Rattle.rest_judging.specs.Judging.{judge}
+use Rattle.data_channel.specs.declared.decision.RestDecision.{RestDecision}
+use Rattle.data_channel.specs.declared.decision.RestDecision.TheVariants as decision
+use Rattle.data_channel.specs.Asking.{verb_of, kind_of, cuid_of}
+use Rattle.data_channel.specs.Decisions.{is_accepted}
+use Rattle.data_channel.specs.Judging.{judge}
 use Rattle.rest_answers.specs.declared.answer.RestAnswer.TheVariants as answer
 use Rattle.rest_answers.specs.declared.caller.Caller.{Caller}
 use Rattle.rest_answers.specs.Known.{Known}

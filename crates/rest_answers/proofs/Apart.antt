@@ -16,19 +16,19 @@ use Rattle.dots_history.specs.declared.change.Change.TheVariants as change
 use Rattle.dots_history.specs.Entries.{same_client, is_held, undoes, undoes_of_client, undoes_of_peer, reconfigures, resumes}
 use Rattle.dots_history.specs.Histories.{tally, stays, held, alone}
 use Rattle.dots_history.specs.Rows.{acl_of}
-use Rattle.dots_laws.specs.Capacities.{is_registration, is_alias, is_list}
-use Rattle.dots_laws.specs.Tables.{Client, is_of}
-use Rattle.dots_laws.specs.Held.{alias_of, written, aliases_of, acls_of, alias_named, acl_named, registers, is_registered}
-use Rattle.dots_laws.proofs.Apart.{other_domain}
-use Rattle.dots_laws.proofs.Alone.{far_resumes}
+use Rattle.dots_history.specs.Capacities.{is_registration, is_alias, is_list}
+use Rattle.dots_history.specs.Tables.{Client, is_of}
+use Rattle.dots_history.specs.Held.{alias_of, written, aliases_of, acls_of, alias_named, acl_named, registers, is_registered}
+use Rattle.dots_history.proofs.Apart.{other_domain}
+use Rattle.dots_history.proofs.Alone.{far_resumes}
 use Rattle.conflict_rules.proofs.Alone.{collides_apart}
 use Rattle.stream_table.specs.Lines.{PeerLines}
 use Rattle.http_cut.specs.Requests.{Request}
 use Rattle.data_channel.specs.declared.reject.RestReject.{RestReject}
 use Rattle.data_channel.specs.declared.request.RestRequest.{RestRequest}
-use Rattle.rest_judging.specs.declared.asking.RestKind.{RestKind}
-use Rattle.rest_judging.specs.declared.asking.RestKind.TheVariants as kind
-use Rattle.rest_judging.specs.Asking.{kind_of, name_of}
+use Rattle.data_channel.specs.declared.asking.RestKind.{RestKind}
+use Rattle.data_channel.specs.declared.asking.RestKind.TheVariants as kind
+use Rattle.data_channel.specs.Asking.{kind_of, name_of}
 use Rattle.rest_answers.specs.declared.answer.RestAnswer.TheVariants as answer
 use Rattle.rest_answers.specs.declared.caller.Caller.{Caller}
 use Rattle.rest_answers.specs.declared.front.RestFront.TheVariants as fronts

@@ -1,15 +1,15 @@
 -- What is known of a request that is accepted.
 use Rattle.std.proofs.Common.{◌≡◌, Bool, true, false, cond, ◌⊎◌, inl, inr, refl}
 use Rattle.std.proofs.lemmas.Bool.{false≢true}
-use Rattle.rest_judging.specs.declared.asking.RestVerb.{RestVerb}
-use Rattle.rest_judging.specs.declared.asking.RestVerb.TheVariants as verb
-use Rattle.rest_judging.specs.declared.asking.RestKind.{RestKind}
-use Rattle.rest_judging.specs.declared.asking.RestKind.TheVariants as kind
-use Rattle.rest_judging.specs.declared.facts.RestFacts.{RestFacts}
-use Rattle.rest_judging.specs.declared.decision.RestDecision.{RestDecision}
-use Rattle.rest_judging.specs.declared.decision.RestDecision.TheVariants.{BadTarget, Taken, Absent, Exists, Full, Unchanged, Created, Replaced}
-use Rattle.rest_judging.specs.Decisions.{is_accepted}
-use Rattle.rest_judging.specs.Judging.{of_resource, judge}
+use Rattle.data_channel.specs.declared.asking.RestVerb.{RestVerb}
+use Rattle.data_channel.specs.declared.asking.RestVerb.TheVariants as verb
+use Rattle.data_channel.specs.declared.asking.RestKind.{RestKind}
+use Rattle.data_channel.specs.declared.asking.RestKind.TheVariants as kind
+use Rattle.data_channel.specs.declared.facts.RestFacts.{RestFacts}
+use Rattle.data_channel.specs.declared.decision.RestDecision.{RestDecision}
+use Rattle.data_channel.specs.declared.decision.RestDecision.TheVariants.{BadTarget, Taken, Absent, Exists, Full, Unchanged, Created, Replaced}
+use Rattle.data_channel.specs.Decisions.{is_accepted}
+use Rattle.data_channel.specs.Judging.{of_resource, judge}
 
 unfaulted : (fault taken : Bool) (decision : RestDecision) → is_accepted (cond fault BadTarget (cond taken Taken decision)) ≡ true → (fault ≡ false) × (is_accepted decision ≡ true)
 unfaulted true taken decision is = absurd (false≢true is)

@@ -14,19 +14,19 @@ use Rattle.dots_history.specs.Entries.{same_client, put_of, is_held, undoes, und
 use Rattle.dots_history.specs.Histories.{Mitigation, tally, live, step, mitigations, held}
 use Rattle.dots_history.specs.Keeping.{moved}
 use Rattle.dots_history.specs.Rows.{acl_of}
-use Rattle.dots_laws.specs.Capacities.{is_registration, is_alias, is_list}
-use Rattle.dots_laws.specs.Fits.{keeps_room}
-use Rattle.dots_laws.specs.Fits as fits
-use Rattle.dots_laws.specs.Held.{aliases_of, acls_of, alias_named, acl_named}
-use Rattle.dots_laws.specs.Held as holds
-use Rattle.dots_laws.specs.Tables.{client_of, is_of}
-use Rattle.dots_laws.specs.Views.{mitigations_with, held_with}
-use Rattle.dots_laws.proofs.Adding.{adding}
-use Rattle.dots_laws.proofs.GoingOn.{held_push}
-use Rattle.dots_laws.proofs.Joining.{tally_held, tally_same}
-use Rattle.dots_laws.proofs.Single.{of_itself, client_is_of}
-use Rattle.dots_laws.proofs.Touching.{never_live}
-use Rattle.dots_laws.proofs.Written.{other_way, own_aliases, own_acls, number_of_aliases, number_of_acls}
+use Rattle.dots_history.specs.Capacities.{is_registration, is_alias, is_list}
+use Rattle.dots_history.specs.Fits.{keeps_room}
+use Rattle.dots_history.specs.Fits as fits
+use Rattle.dots_history.specs.Held.{aliases_of, acls_of, alias_named, acl_named}
+use Rattle.dots_history.specs.Held as holds
+use Rattle.dots_history.specs.Tables.{client_of, is_of}
+use Rattle.dots_history.specs.Views.{mitigations_with, held_with}
+use Rattle.dots_history.proofs.Adding.{adding}
+use Rattle.dots_history.proofs.GoingOn.{held_push}
+use Rattle.dots_history.proofs.Joining.{tally_held, tally_same}
+use Rattle.dots_history.proofs.Single.{of_itself, client_is_of}
+use Rattle.dots_history.proofs.Touching.{never_live}
+use Rattle.dots_history.proofs.Written.{other_way, own_aliases, own_acls, number_of_aliases, number_of_acls}
 
 -- ---- live mitigations
 

@@ -15,19 +15,19 @@ use Rattle.dots_history.specs.Bounds.{alias_within, change_within, within_bounds
 use Rattle.dots_history.specs.Entries.{same_client, put_of, is_configuration, is_signal, is_loss}
 use Rattle.dots_history.specs.Histories.{tally, is_nil, mitigations, held}
 use Rattle.dots_history.specs.Rows.{waits}
-use Rattle.dots_laws.specs.Calm.{may_act, may_configure, is_client_of, change_inside, acts_rightly, loses_rightly, waits_rightly, came_rightly, is_of_settings, is_own}
-use Rattle.dots_laws.specs.Capacities.{is_registration, is_alias, is_list, has_client}
-use Rattle.dots_laws.specs.Fits.{last_time, registers_rightly, keeps_room, fits}
-use Rattle.dots_laws.specs.Fits as laws
-use Rattle.dots_laws.specs.Held.{is_registered}
-use Rattle.dots_laws.specs.Tables.{client_of}
+use Rattle.dots_history.specs.Calm.{may_act, may_configure, is_client_of, change_inside, acts_rightly, loses_rightly, waits_rightly, came_rightly, is_of_settings, is_own}
+use Rattle.dots_history.specs.Capacities.{is_registration, is_alias, is_list, has_client}
+use Rattle.dots_history.specs.Fits.{last_time, registers_rightly, keeps_room, fits}
+use Rattle.dots_history.specs.Fits as laws
+use Rattle.dots_history.specs.Held.{is_registered}
+use Rattle.dots_history.specs.Tables.{client_of}
 use Rattle.list_json.specs.Within.{IsAliasWithin}
 use Rattle.data_channel.specs.declared.request.RestRequest.{RestRequest}
 use Rattle.data_channel.specs.declared.request.RestRequest.TheVariants as request
 use Rattle.data_channel.specs.Within.{IsWithin}
-use Rattle.rest_judging.specs.Asking.{verb_of, kind_of, cuid_of}
-use Rattle.rest_judging.specs.Decisions.{is_accepted}
-use Rattle.rest_judging.specs.Judging.{judge}
+use Rattle.data_channel.specs.Asking.{verb_of, kind_of, cuid_of}
+use Rattle.data_channel.specs.Decisions.{is_accepted}
+use Rattle.data_channel.specs.Judging.{judge}
 use Rattle.rest_answers.specs.declared.answer.RestAnswer.TheVariants as answer
 use Rattle.rest_answers.specs.declared.caller.Caller.{Caller}
 use Rattle.rest_answers.specs.Known.{Known, is_faulty, facts_of, known_of}

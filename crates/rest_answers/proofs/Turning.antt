@@ -7,7 +7,7 @@ use Rattle.dots_host.specs.declared.out.OwnedOut.TheVariants as owned
 use Rattle.dots_settings.specs.declared.peer.Role.{Role}
 use Rattle.dots_settings.specs.Settings.{SettingsValue, IsSettings}
 use Rattle.dots_settings.specs.Lookups.{role_of}
-use Rattle.dots_laws.specs.Calm.{may_act}
+use Rattle.dots_history.specs.Calm.{may_act}
 use Rattle.dots_history.specs.declared.entry.Entry.{Entry}
 use Rattle.stream_table.specs.Lines.{Line, PeerLines, AreOf, line_of}
 use Rattle.stream_table.specs.Places.{AreApart, buffered_by, with_more}

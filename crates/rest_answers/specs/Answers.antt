@@ -5,8 +5,8 @@ use Rattle.acl_lists.specs.declared.acl.Acl.{Acl}
 use Rattle.dots_settings.specs.Settings.{SettingsValue}
 use Rattle.dots_history.specs.declared.entry.Entry.{Entry}
 use Rattle.dots_history.specs.declared.entry.MessageKey.TheVariants.{Http}
-use Rattle.dots_laws.specs.Fits.{is_of_mitigations}
-use Rattle.dots_laws.specs.Held.{alias_named, acl_named}
+use Rattle.dots_history.specs.Fits.{is_of_mitigations}
+use Rattle.dots_history.specs.Held.{alias_named, acl_named}
 use Rattle.serde_json.specs.Written.{compact_text}
 use Rattle.http_cut.specs.Requests.{Request}
 use Rattle.data_channel.specs.declared.reject.RestReject.{RestReject}
@@ -16,11 +16,11 @@ use Rattle.data_channel.specs.declared.request.RestRequest.{RestRequest}
 use Rattle.data_channel.specs.declared.request.RestRequest.TheVariants as request
 use Rattle.data_channel.specs.Replies.{body_data}
 use Rattle.data_channel.specs.Rest.{Rest}
-use Rattle.rest_judging.specs.declared.decision.RestDecision.{RestDecision}
-use Rattle.rest_judging.specs.declared.decision.RestDecision.TheVariants.{Retrieved, Absent}
-use Rattle.rest_judging.specs.Asking.{verb_of, kind_of, cuid_of}
-use Rattle.rest_judging.specs.Decisions.{is_accepted}
-use Rattle.rest_judging.specs.Judging.{judge}
+use Rattle.data_channel.specs.declared.decision.RestDecision.{RestDecision}
+use Rattle.data_channel.specs.declared.decision.RestDecision.TheVariants.{Retrieved, Absent}
+use Rattle.data_channel.specs.Asking.{verb_of, kind_of, cuid_of}
+use Rattle.data_channel.specs.Decisions.{is_accepted}
+use Rattle.data_channel.specs.Judging.{judge}
 use Rattle.rest_answers.specs.declared.answer.RestAnswer.TheVariants as answer
 use Rattle.rest_answers.specs.declared.caller.Caller.{Caller}
 use Rattle.rest_answers.specs.Answer.{RestAnswer}

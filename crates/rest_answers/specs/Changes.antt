@@ -6,7 +6,7 @@ use Rattle.dots_history.specs.declared.change.Change.{Change}
 use Rattle.dots_history.specs.declared.change.Change.TheVariants as change
 use Rattle.data_channel.specs.declared.request.RestRequest.{RestRequest}
 use Rattle.data_channel.specs.declared.request.RestRequest.TheVariants as request
-use Rattle.rest_judging.specs.Asking.{cuid_of}
+use Rattle.data_channel.specs.Asking.{cuid_of}
 use Rattle.rest_answers.specs.declared.caller.Caller.{Caller}
 
 -- A client registers, or leaves with all that it has; an alias or an access list is written, or deleted. A GET changes nothing.

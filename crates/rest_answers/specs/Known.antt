@@ -5,19 +5,19 @@ use Rattle.acl_lists.specs.declared.acl.Acl.{Acl}
 use Rattle.dots_settings.specs.declared.limits.Limits.{Limits}
 use Rattle.dots_settings.specs.Settings.{SettingsValue}
 use Rattle.dots_settings.specs.Lookups.{prefixes_of}
-use Rattle.target_rules.specs.Targets.{scope_fault, list_fault}
+use Rattle.conflict_rules.specs.AskableTargets.{scope_fault, list_fault}
 use Rattle.dots_history.specs.declared.entry.Entry.{Entry}
 use Rattle.dots_history.specs.Histories.{tally, held}
-use Rattle.dots_laws.specs.Capacities.{is_registration, is_alias, is_list}
-use Rattle.dots_laws.specs.Tables.{Client, is_of}
-use Rattle.dots_laws.specs.Held.{aliases_of, acls_of, alias_named, acl_named, is_registered}
+use Rattle.dots_history.specs.Capacities.{is_registration, is_alias, is_list}
+use Rattle.dots_history.specs.Tables.{Client, is_of}
+use Rattle.dots_history.specs.Held.{aliases_of, acls_of, alias_named, acl_named, is_registered}
 use Rattle.conflict_rules.specs.ByHistory.{collides}
 use Rattle.data_channel.specs.declared.request.RestRequest.{RestRequest}
 use Rattle.data_channel.specs.declared.request.RestRequest.TheVariants as request
-use Rattle.rest_judging.specs.declared.asking.RestKind.{RestKind}
-use Rattle.rest_judging.specs.declared.asking.RestKind.TheVariants as kind
-use Rattle.rest_judging.specs.declared.facts.RestFacts.{RestFacts}
-use Rattle.rest_judging.specs.Asking.{kind_of, cuid_of, name_of}
+use Rattle.data_channel.specs.declared.asking.RestKind.{RestKind}
+use Rattle.data_channel.specs.declared.asking.RestKind.TheVariants as kind
+use Rattle.data_channel.specs.declared.facts.RestFacts.{RestFacts}
+use Rattle.data_channel.specs.Asking.{kind_of, cuid_of, name_of}
 use Rattle.rest_answers.specs.declared.caller.Caller.{Caller}
 
 -- the client that a request is about, or below which it is

@@ -9,12 +9,12 @@ use Rattle.data_channel.specs.declared.reject.RestReject.TheVariants as reject
 use Rattle.data_channel.specs.declared.request.RestRequest.{RestRequest}
 use Rattle.data_channel.specs.Heads.{allow_text}
 use Rattle.data_channel.specs.Replies.{location_in}
-use Rattle.rest_judging.specs.declared.asking.RestVerb.{RestVerb}
-use Rattle.rest_judging.specs.declared.asking.RestVerb.TheVariants.{Post}
-use Rattle.rest_judging.specs.declared.decision.RestDecision.{RestDecision}
-use Rattle.rest_judging.specs.declared.decision.RestDecision.TheVariants.{Created}
-use Rattle.rest_judging.specs.Asking.{verb_of}
-use Rattle.rest_judging.specs.Decisions.{status_of, status_of_reject}
+use Rattle.data_channel.specs.declared.asking.RestVerb.{RestVerb}
+use Rattle.data_channel.specs.declared.asking.RestVerb.TheVariants.{Post}
+use Rattle.data_channel.specs.declared.decision.RestDecision.{RestDecision}
+use Rattle.data_channel.specs.declared.decision.RestDecision.TheVariants.{Created}
+use Rattle.data_channel.specs.Asking.{verb_of}
+use Rattle.data_channel.specs.Decisions.{status_of, status_of_reject}
 
 -- The head: the status, whether the connection is closed behind the reply, where a resource is, which methods it has, whether the body is
 -- YANG data in JSON, and how many bytes it has, which 204 doesn't say.

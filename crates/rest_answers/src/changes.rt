@@ -2,14 +2,13 @@
 
 ghost use Rattle.std.specs.Prelude.{◌≡◌, true, IfOk, OnOk};
 ghost use Rattle.dots_lists.specs.Name.{is_name};
-ghost use Rattle.rest_judging.specs.Asking.{cuid_of};
+ghost use Rattle.data_channel.specs.Asking.{cuid_of};
 ghost use Rattle.rest_answers.specs.Changes.{change_of, entry_with, entry_of};
 
 use crate::caller::Caller;
-use data_channel::RestRequest;
+use data_channel::{RestRequest, cuid_of};
 use dots_history::{Change, Entry, MessageKey};
 use dots_lists::{Bytes, Name, NoMemory, Text};
-use rest_judging::cuid_of;
 use std::alloc::Global;
 
 /// What a request changes where it is accepted; None for a GET.

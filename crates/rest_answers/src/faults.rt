@@ -3,9 +3,9 @@
 ghost use Rattle.std.specs.Prelude.{◌≡◌};
 ghost use Rattle.rest_answers.specs.Known.{is_faulty};
 
+use conflict_rules::{list_fault, scope_fault};
 use data_channel::RestRequest;
 use dots_settings::Settings;
-use target_rules::{list_fault, scope_fault};
 
 /// Whether a request writes an alias with a prefix or host name, or an access list with a destination, that may not be asked for in the domain
 /// of this number.

@@ -2,7 +2,7 @@
 //!
 //! A [`RestAnswer`] is the bytes of a reply and, where something changes, the entry of it. `specs/Answers.antt` says what it is, by what a
 //! history comes to at a time (`specs/Known.antt`); `specs/Changes.antt` says what a request changes, and `specs/Replies.antt` has the bytes.
-//! In which order a request is judged is in `rest_judging`. A [`RestFront`] is what stands at the front of a connection, and `specs/Turns.antt`
+//! In which order a request is judged is in `data_channel`. A [`RestFront`] is what stands at the front of a connection, and `specs/Turns.antt`
 //! says what a turn of the connection does of it.
 //!
 //! The functions make the parts of an answer, and look nothing up. [`laws`] says what an accepted change has. A [`RestReply`] is a reply without a body, which is written without memory.

@@ -6,10 +6,11 @@ ghost use Rattle.http_cut.specs.Reply.{is_reply_status};
 ghost use Rattle.std.specs.Prelude.{IsTrue};
 
 use crate::reply::RestReply;
-use data_channel::{RestReject, RestRequest, location_of};
+use data_channel::{
+    RestDecision, RestReject, RestRequest, RestVerb, location_of, status_of_reject, verb_of,
+};
 use dots_lists::{Bytes, NoMemory};
 use http_cut::{HttpFault, ReplyHead, write_head};
-use rest_judging::{RestDecision, RestVerb, status_of_reject, verb_of};
 use std::alloc::Global;
 
 /// The reply to a request on which this is decided, which isn't shown.

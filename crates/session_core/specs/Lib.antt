@@ -1,3 +1,6 @@
+pub mod Beats
+pub mod Notices
+pub mod Notifying
 pub mod Beating
 pub mod Contacts
 pub mod Firsts

@@ -5,15 +5,15 @@ use Rattle.std.specs.List.{AllByRecursion}
 use Rattle.std.proofs.lemmas.List.{append_cancel_left, length-map}
 use Rattle.std.proofs.lemmas.Bool.{cases_lt}
 use Rattle.std.proofs.Math.Path.{fun_ext}
-use Rattle.dots_disk.specs.Media.{Medium, Media, all_media, byte_of}
-use Rattle.dots_disk.specs.Becoming.{EachMedium, Leaves, RestsWith}
+use Rattle.dots_host.specs.Media.{Medium, Media, all_media, byte_of}
+use Rattle.dots_host.specs.Becoming.{EachMedium, Leaves, RestsWith}
 use Rattle.dots_settings.specs.Settings.{SettingsValue}
-use Rattle.record_formats.specs.declared.format.Format.{Format}
-use Rattle.record_formats.specs.declared.format.Format.TheVariants.{One, Two}
+use Rattle.slot_store.specs.declared.format.Format.{Format}
+use Rattle.slot_store.specs.declared.format.Format.TheVariants.{One, Two}
 use Rattle.dots_history.specs.declared.entry.Entry.{Entry}
-use Rattle.entry_records.specs.Layout.{record_bytes}
-use Rattle.entry_records.specs.Records.{IsRecord}
-use Rattle.entry_records.proofs.Places.{one_entry}
+use Rattle.slot_journal.specs.Layout.{record_bytes}
+use Rattle.slot_journal.specs.Records.{IsRecord}
+use Rattle.slot_journal.proofs.Places.{one_entry}
 use Rattle.slot_store.specs.Layout.{place_of, IsHeader, HasFormat, IsSlot, IsHalf, IsBlank, IsJournal, HasRecords}
 use Rattle.slot_store.specs.StoreValues.{JournalValue}
 use Rattle.slot_store.specs.Refusing.{IsOtherHeader, IsStrayGate, FirstWrong, front, format as no_format, rest, size}
@@ -24,7 +24,7 @@ use Rattle.slot_journal.specs.declared.fault.JournalFault.TheVariants as fault
 use Rattle.slot_journal.specs.Sizes.{slots_of}
 use Rattle.slot_journal.specs.DiskEntries.{HasRecord, HasEntries, HasEither, Represents, records_of}
 use Rattle.slot_journal.specs.Left.{IsLeft}
-use Rattle.slot_journal.proofs.Writing.{image_has}
+use Rattle.slot_journal.proofs.WritingLemmas.{image_has}
 use Rattle.slot_journal.specs.Refused.{Refuses, IsRefusal, IsBadSlot, IsGap}
 
 -- ---- an image at a moment

@@ -4,11 +4,11 @@ use Rattle.std.specs.Prelude.{true, false}
 use Rattle.std.specs.List.{AllByRecursion}
 use Rattle.std.proofs.lemmas.Bool.{cases_eq, eqb-true, eqb-false}
 use Rattle.std.proofs.lemmas.List.{length-map, length-append, length-take}
-use Rattle.dots_disk.specs.Media.{bytes_at}
-use Rattle.record_formats.specs.declared.format.Format.{Format}
+use Rattle.dots_host.specs.Media.{bytes_at}
+use Rattle.slot_store.specs.declared.format.Format.{Format}
 use Rattle.dots_history.specs.declared.entry.Entry.{Entry}
-use Rattle.entry_records.specs.Layout.{record_bytes}
-use Rattle.entry_records.specs.Records.{IsRecord}
+use Rattle.slot_journal.specs.Layout.{record_bytes}
+use Rattle.slot_journal.specs.Records.{IsRecord}
 use Rattle.slot_store.specs.declared.wanted.Wanted.TheVariants as wanted
 use Rattle.slot_store.specs.Layout.{place_of, needed_of, IsSlot, IsHalf}
 use Rattle.slot_store.specs.Gates.{is_wanted}

@@ -3,12 +3,12 @@ use Rattle.std.proofs.Common.{◌≡◌, ◌<◌, ℕ, zero, suc, List, [], ◌�
 use Rattle.std.specs.Prelude.{slice_get, slice_index_or, option_to_list}
 use Rattle.std.specs.List.{AllByRecursion}
 use Rattle.std.proofs.lemmas.List.{map-append}
-use Rattle.record_formats.specs.declared.format.Format.{Format}
-use Rattle.record_formats.specs.declared.format.Format.TheVariants.{One, Two}
-use Rattle.record_formats.specs.Formats.{rewritten}
+use Rattle.slot_store.specs.declared.format.Format.{Format}
+use Rattle.slot_store.specs.declared.format.Format.TheVariants.{One, Two}
+use Rattle.slot_store.specs.Formats.{rewritten}
 use Rattle.dots_history.specs.declared.entry.Entry.{Entry}
-use Rattle.entry_records.specs.Layout.{record_bytes}
-use Rattle.entry_records.proofs.Upgrades.{upgraded_is}
+use Rattle.slot_journal.specs.Layout.{record_bytes}
+use Rattle.slot_journal.proofs.Upgrades.{upgraded_is}
 use Rattle.slot_store.specs.Copying.{AreSlots, kept_of}
 use Rattle.slot_journal.specs.DiskEntries.{HasRecord, records_of, entries_at}
 

@@ -3,19 +3,19 @@ use Rattle.std.proofs.Common.{◌≡◌, ◌≢◌, ◌⊎◌, inl, inr, ℕ, �
 use Rattle.std.specs.Prelude.{⊤, Err}
 use Rattle.std.specs.List.{AllByRecursion}
 use Rattle.std.proofs.lemmas.List.{length-map}
-use Rattle.dots_disk.specs.Media.{Media}
-use Rattle.dots_disk.specs.Becoming.{KeepsMedia, Leaves, RestsWith}
+use Rattle.dots_host.specs.Media.{Media}
+use Rattle.dots_host.specs.Becoming.{KeepsMedia, Leaves, RestsWith}
 use Rattle.dots_settings.specs.Settings.{SettingsValue}
-use Rattle.record_formats.specs.declared.format.Format.{Format}
-use Rattle.record_formats.specs.declared.format.Format.TheVariants.{Two}
+use Rattle.slot_store.specs.declared.format.Format.{Format}
+use Rattle.slot_store.specs.declared.format.Format.TheVariants.{Two}
 use Rattle.dots_history.specs.declared.entry.Entry.{Entry}
-use Rattle.entry_records.specs.Layout.{record_bytes}
+use Rattle.slot_journal.specs.Layout.{record_bytes}
 use Rattle.slot_store.specs.declared.fault.OpenFault.{OpenFault}
 use Rattle.slot_store.specs.declared.fault.OpenFault.TheVariants as opening
 use Rattle.slot_store.specs.Layout.{place_of, IsHeader, HasFormat, IsHalf, IsBlank, IsJournal, HasRecords}
 use Rattle.slot_store.specs.Opening.{Is}
 use Rattle.slot_store.specs.Gates.{Sees}
-use Rattle.slot_store.specs.Refusing.{Refuses as RefusesStore, IsOpen, IsCount, Caused as CausedOpening}
+use Rattle.slot_store.specs.Refusing.{Refuses as RefusesStore, IsSmallBy as IsSmallStore, IsOpen, IsCount, Caused as CausedOpening}
 use Rattle.slot_store.specs.StoreValues.{JournalValue, IsKnown}
 use Rattle.slot_store.proofs.Steps.{leaves_as, leaves_then, seen_at_rest, rests_as}
 use Rattle.slot_store.proofs.DiskReading.{sees_at_rest, rests_unchanged, leaves_unchanged}
@@ -25,8 +25,8 @@ use Rattle.slot_journal.specs.declared.fault.JournalFault.{JournalFault}
 use Rattle.slot_journal.specs.declared.fault.JournalFault.TheVariants as fault
 use Rattle.slot_journal.specs.Sizes.{slots_of}
 use Rattle.slot_journal.specs.DiskEntries.{HasRecord, HasEntries, Represents, records_of}
-use Rattle.slot_journal.specs.Refused.{Refuses, RefusesHalf, IsBadSlot, IsGap, IsFaultFor, Caused}
-use Rattle.slot_journal.proofs.Writing.{image_has}
+use Rattle.slot_journal.specs.Refused.{Refuses, RefusesHalf, IsBadSlot, IsGap, IsSmallBy, IsNoSize, IsFaultFor, Caused}
+use Rattle.slot_journal.proofs.WritingLemmas.{image_has}
 
 -- ---- the faults of the slots
 
@@ -46,6 +46,20 @@ fault_caused (opening.NotOurs at) given answer before now is cause = subst (λ a
 fault_caused (opening.SettingsChanged stored) given answer before now is cause = subst (λ answer. Caused {A = ⊤} before now (Err answer)) (sym is) cause
 fault_caused opening.DiskFault given answer before now is cause = subst (λ answer. Caused {A = ⊤} before now (Err answer)) (sym is) cause
 fault_caused opening.NoMemory given answer before now is cause = subst (λ answer. Caused {A = ⊤} before now (Err answer)) (sym is) cause
+
+pub fault_small : (settings : SettingsValue) (extent : ℕ) (given : List ℕ) (why : OpenFault) (answer : JournalFault) → IsFaultFor why given answer → IsSmallStore (slots_of settings) extent why → IsSmallBy settings extent answer
+fault_small settings extent given (opening.TooSmall needed found) answer is small = subst (IsSmallBy settings extent) (sym is) small
+fault_small settings extent given (opening.NotOurs at) answer is small = subst (IsSmallBy settings extent) (sym is) tt
+fault_small settings extent given (opening.SettingsChanged stored) answer is small = subst (IsSmallBy settings extent) (sym is) tt
+fault_small settings extent given opening.DiskFault answer is small = subst (IsSmallBy settings extent) (sym is) tt
+fault_small settings extent given opening.NoMemory answer is small = subst (IsSmallBy settings extent) (sym is) tt
+
+pub other_size : (settings : SettingsValue) (extent : ℕ) (why : JournalFault) → IsNoSize why → IsSmallBy settings extent why
+other_size settings extent (fault.TooSmall needed found) other = absurd other
+other_size settings extent (fault.NotOurs at) other = tt
+other_size settings extent (fault.SettingsChanged stored given) other = tt
+other_size settings extent fault.DiskFault other = tt
+other_size settings extent fault.NoMemory other = tt
 
 -- ---- a half that was read of a disk that was opened
 

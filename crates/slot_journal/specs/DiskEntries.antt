@@ -1,12 +1,12 @@
 -- The entries that a disk holds, one record for each, and the journal that represents them.
 use Rattle.std.specs.Prelude.{◌≡◌, ℕ, ◌⊎◌, List, map, slice_get, option_to_list, IsTrue}
 use Rattle.std.specs.List.{AllByRecursion, flat_map}
-use Rattle.record_formats.specs.declared.format.Format.{Format}
+use Rattle.slot_store.specs.declared.format.Format.{Format}
 use Rattle.dots_settings.specs.Settings.{SettingsValue}
 use Rattle.dots_history.specs.declared.entry.Entry.{Entry}
 use Rattle.dots_history.specs.Bounds.{within_bounds}
-use Rattle.entry_records.specs.Values.{IsEntry}
-use Rattle.entry_records.specs.Layout.{record_bytes}
+use Rattle.slot_journal.specs.Values.{IsEntry}
+use Rattle.slot_journal.specs.Layout.{record_bytes}
 use Rattle.slot_store.specs.Layout.{HasRecords}
 use Rattle.slot_store.specs.StoreValues.{JournalValue, RepresentsRecords}
 use Rattle.slot_journal.specs.Sizes.{slots_of}

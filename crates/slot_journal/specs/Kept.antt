@@ -3,7 +3,7 @@ use Rattle.std.specs.Prelude.{◌≡◌, ℕ, true, List}
 use Rattle.dots_settings.specs.Settings.{SettingsValue}
 use Rattle.dots_history.specs.declared.entry.Entry.{Entry}
 use Rattle.dots_history.specs.Histories.{Kept}
-use Rattle.dots_laws.specs.Fits.{is_calm}
+use Rattle.dots_history.specs.Fits.{is_calm}
 use Rattle.slot_journal.specs.DiskEntries.{HasEntries}
 
 -- An image of a disk holds calm entries that are a part of this history with its view at this time, when n messages are remembered.

@@ -1,6 +1,6 @@
 -- What a crash leaves of a disk in the middle of calls.
 use Rattle.std.specs.Prelude.{◌≡◌, ℕ, List, ◌∷◌, ◌++◌, Option, Some}
-use Rattle.dots_disk.specs.Media.{Medium, Media, IsImage, all_media}
+use Rattle.dots_host.specs.Media.{Medium, Media, IsImage, all_media}
 
 -- A crash leaves this image at the moment before the first of the calls, or at one after it.
 pub record IsLeftOf (old new : Media) (image : ℕ → ℕ) : Type 0 where

@@ -1,3 +1,9 @@
+pub mod Values
+pub mod Layout
+pub mod Records
+pub mod RecordFaultText
+pub mod RecordReading
+pub mod Writing
 pub mod Sizes
 pub mod DiskEntries
 pub mod Refused

@@ -2,10 +2,10 @@
 use Rattle.std.specs.Prelude.{◌≡◌, ◌≢◌, ℕ, ◌%◌, ◌<◌, ◌≤◌, ◌⊎◌, List, [], length, slice_index_or, Result, Err, ⊤}
 use Rattle.std.specs.List.{AllByRecursion}
 use Rattle.dots_host.specs.Causes.{Rose}
-use Rattle.record_formats.specs.declared.format.Format.{Format}
+use Rattle.slot_store.specs.declared.format.Format.{Format}
 use Rattle.dots_settings.specs.Settings.{SettingsValue}
 use Rattle.dots_history.specs.declared.entry.Entry.{Entry}
-use Rattle.entry_records.specs.Records.{IsRecord}
+use Rattle.slot_journal.specs.Records.{IsRecord}
 use Rattle.slot_store.specs.declared.fault.OpenFault.{OpenFault}
 use Rattle.slot_store.specs.declared.fault.OpenFault.TheVariants as opening
 use Rattle.slot_store.specs.Layout.{place_of, needed_of, IsHeader, HasFormat, IsSlot}
@@ -90,6 +90,16 @@ Refuses settings extent seen (fault.NotOurs at) =
 Refuses settings extent seen (fault.SettingsChanged stored given) = RefusesDisk (slots_of settings) settings.digest seen (opening.SettingsChanged stored) × (given ≡ settings.digest)
 Refuses settings extent seen fault.DiskFault = ⊤
 Refuses settings extent seen fault.NoMemory = ⊤
+
+-- Why a disk is too small, whatever it tells of its content: its size is always told, and the settings need more bytes.
+abbrev pub IsSmallBy : SettingsValue → ℕ → JournalFault → Type 0
+IsSmallBy settings extent (fault.TooSmall needed found) = (needed ≡ needed_of (slots_of settings)) × (found ≡ extent) × (found < needed)
+IsSmallBy settings extent _ = ⊤
+
+-- the disk isn't refused for its size
+abbrev pub IsNoSize : JournalFault → Type 0
+IsNoSize (fault.TooSmall needed found) = ⊥
+IsNoSize _ = ⊤
 
 -- a fault of the disk comes where its count rose, and else the count stays
 abbrev pub Caused : {A : Type 0} → ℕ → ℕ → Result A JournalFault → Type 0

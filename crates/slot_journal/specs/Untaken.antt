@@ -1,10 +1,10 @@
 -- Why the entries of a disk aren't taken: the disk isn't recovered, or an entry doesn't join those before it.
 use Rattle.std.specs.Prelude.{◌≡◌, ℕ, ◌%◌, ◌⊎◌, ⊤, true, false, List, ◌∷◌, ◌++◌, length, Option}
-use Rattle.dots_disk.specs.Media.{Media}
-use Rattle.dots_disk.specs.Becoming.{RestsWith}
+use Rattle.dots_host.specs.Media.{Media}
+use Rattle.dots_host.specs.Becoming.{RestsWith}
 use Rattle.dots_settings.specs.Settings.{SettingsValue}
 use Rattle.dots_history.specs.declared.entry.Entry.{Entry}
-use Rattle.dots_laws.specs.Fits.{joins, is_calm}
+use Rattle.dots_history.specs.Fits.{joins, is_calm}
 use Rattle.slot_store.specs.Layout.{place_of}
 use Rattle.slot_store.specs.StoreValues.{JournalValue}
 use Rattle.slot_journal.specs.declared.fault.JournalFault.{JournalFault}

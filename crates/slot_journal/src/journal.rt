@@ -1,7 +1,7 @@
 ghost use Rattle.std.specs.Prelude.{◌≡◌, ◌≢◌, ℕ, ◌+◌, ◌%◌, ◌<◌, ◌≤◌, List, [], ◌∷◌, ◌++◌, length, IsTrue, IfOk, IfErr, OnOk, OnErr};
 ghost use Rattle.std.specs.List.{AllByRecursion};
 ghost use Rattle.dots_host.specs.Causes.{HasCause};
-ghost use Rattle.dots_disk.specs.Becoming.{Leaves, RestsWith};
+ghost use Rattle.dots_host.specs.Becoming.{Leaves, RestsWith};
 ghost use Rattle.dots_settings.specs.Settings.{SettingsValue};
 ghost use Rattle.dots_history.specs.declared.entry.Entry.{Entry};
 ghost use Rattle.dots_history.specs.Bounds.{within_bounds};
@@ -11,19 +11,18 @@ ghost use Rattle.slot_store.specs.Gates.{Sees};
 ghost use Rattle.slot_store.specs.Copying.{AreSlots, other_selector};
 ghost use Rattle.slot_journal.specs.Sizes.{slots_of};
 ghost use Rattle.slot_journal.specs.DiskEntries.{HasEntries, HasEither, HasRecord, Represents, entries_at};
-ghost use Rattle.slot_journal.specs.Refused.{Refuses, Caused};
+ghost use Rattle.slot_journal.specs.Refused.{Refuses, IsSmallBy, Caused};
 
 use crate::entries::EntryList;
 use crate::fault::JournalFault;
 use crate::opening::open_store;
 use crate::reading::read_half;
+use crate::room::RecordRoom;
 use crate::size::slots;
-use dots_disk::Disk;
 use dots_history::Entry;
+use dots_host::Disk;
 use dots_settings::Settings;
-use entry_records::RecordRoom;
-use record_formats::Format;
-use slot_store::{DiskFault, SlotStore, format_one};
+use slot_store::{DiskFault, Format, SlotStore, format_one};
 use std::alloc::Global;
 use std::marker::Model;
 
@@ -71,6 +70,9 @@ impl Journal {
         ensures size { IfOk result (λ found. (found.0.slots ≡ slots_of settings.now) × (needed_of (slots_of settings.now) ≤ D.extent disk.new)) }
         ensures refused { IfErr result (λ fault. (seen : ℕ → ℕ) → Sees (D.media disk.old) seen →
             Refuses settings.now (D.extent disk.old) seen fault) }
+
+        // A disk whose content isn't told is too small for the same cause.
+        ensures small { IfErr result (IsSmallBy settings.now (D.extent disk.old)) }
 
         // Where the disk is refused, and none of its calls failed, nothing was written.
         ensures unwritten { IfErr result (λ fault. (seen : ℕ → ℕ) → fault ≢ JournalFault.DiskFault →

@@ -3,7 +3,7 @@
 ghost use Rattle.std.specs.Prelude.{◌≡◌, ◌⊎◌, ℕ, ◌≤◌, ◌<◌, List, [], ◌∷◌, ◌++◌, IsTrue, IfOk, IfErr, OnOk};
 ghost use Rattle.slot_journal.specs.declared.fault.JournalFault.{JournalFault};
 ghost use Rattle.dots_host.specs.Causes.{HasCause};
-ghost use Rattle.dots_disk.specs.Becoming.{RestsWith};
+ghost use Rattle.dots_host.specs.Becoming.{RestsWith};
 ghost use Rattle.dots_settings.specs.Settings.{SettingsValue};
 ghost use Rattle.dots_history.specs.declared.entry.Entry.{Entry};
 ghost use Rattle.dots_history.specs.Bounds.{within_bounds};
@@ -16,8 +16,8 @@ ghost use Rattle.slot_journal.specs.Refused.{Refuses, IsRefusal, Caused};
 use crate::entries::EntryList;
 use crate::fault::JournalFault;
 use crate::journal::Journal;
-use dots_disk::Disk;
 use dots_history::Entry;
+use dots_host::Disk;
 use dots_settings::Settings;
 use slot_store::DiskFault;
 use std::alloc::Global;

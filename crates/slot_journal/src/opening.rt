@@ -1,20 +1,19 @@
 //! How the slots of a disk are opened for a journal.
 
 ghost use Rattle.std.specs.Prelude.{◌≡◌, ◌≢◌, ℕ, ◌≤◌, List, IfOk, IfErr};
-ghost use Rattle.dots_disk.specs.Becoming.{Leaves, RestsWith};
+ghost use Rattle.dots_host.specs.Becoming.{Leaves, RestsWith};
 ghost use Rattle.slot_store.specs.Layout.{needed_of, HasRecords};
 ghost use Rattle.slot_store.specs.Opening.{Is};
 ghost use Rattle.slot_store.specs.Gates.{Sees};
 ghost use Rattle.slot_store.specs.StoreValues.{IsKnown};
 ghost use Rattle.slot_journal.specs.Sizes.{slots_of};
-ghost use Rattle.slot_journal.specs.Refused.{Refuses, Caused, IsFaultFor};
+ghost use Rattle.slot_journal.specs.Refused.{Refuses, IsSmallBy, Caused, IsFaultFor};
 
 use crate::fault::JournalFault;
 use crate::size::slots;
-use dots_disk::Disk;
+use dots_host::Disk;
 use dots_settings::Settings;
-use record_formats::Format;
-use slot_store::{OpenFault, SlotStore};
+use slot_store::{Format, OpenFault, SlotStore};
 use std::alloc::Global;
 
 /// What is told where the slots aren't opened under settings with this digest.
@@ -47,6 +46,7 @@ pub fn open_store<D: Disk>(
     ensures size { IfOk result (λ store. (store.slots ≡ slots_of settings.now) × (needed_of (slots_of settings.now) ≤ D.extent disk.new)) }
     ensures refused { IfErr result (λ fault. (seen : ℕ → ℕ) → Sees (D.media disk.old) seen →
         Refuses settings.now (D.extent disk.old) seen fault) }
+    ensures small { IfErr result (IsSmallBy settings.now (D.extent disk.old)) }
     ensures unwritten { IfErr result (λ fault. (seen : ℕ → ℕ) → fault ≢ JournalFault.DiskFault →
         RestsWith (D.media disk.old) (Is seen) → RestsWith (D.media disk.new) (Is seen)) }
     ensures extent { D.extent disk.new ≡ D.extent disk.old }

@@ -2,28 +2,28 @@
 
 ghost use Rattle.std.specs.Prelude.{◌≡◌, ℕ, ◌+◌, ◌%◌, ◌<◌, ◌≤◌, length, IfOk, IfErr, OnOk};
 ghost use Rattle.std.specs.List.{AllByRecursion};
-ghost use Rattle.dots_disk.specs.Becoming.{KeepsMedia};
-ghost use Rattle.entry_records.specs.Layout.{record_bytes};
+ghost use Rattle.dots_host.specs.Becoming.{KeepsMedia};
+ghost use Rattle.slot_journal.specs.Layout.{record_bytes};
 ghost use Rattle.slot_store.specs.Layout.{needed_of, IsSlot, IsHalf};
 ghost use Rattle.slot_store.specs.Gates.{Sees};
 ghost use Rattle.slot_store.specs.Refusing.{IsCount};
 ghost use Rattle.slot_journal.specs.DiskEntries.{HasRecord, records_of};
-ghost use Rattle.slot_journal.specs.Refused.{IsNoRecord, IsNoWant, RefusesSlot, RefusesRest, RefusesHalf, HasFirst, AreClosed, Caused};
+ghost use Rattle.slot_journal.specs.Refused.{IsNoRecord, IsNoSize, IsNoWant, RefusesSlot, RefusesRest, RefusesHalf, HasFirst, AreClosed, Caused};
 
 use crate::entries::EntryList;
 use crate::fault::JournalFault;
-use dots_disk::Disk;
+use crate::record_fault::EntryFault;
+use crate::record_reading::entry_of;
 use dots_history::Entry;
-use dots_host::Failed;
-use entry_records::{EntryFault, entry_of};
-use record_formats::Format;
-use slot_store::{SLOT, SlotStore, Wanted, find_gate, read_slot};
+use dots_host::{Disk, Failed};
+use slot_store::{Format, SLOT, SlotStore, Wanted, find_gate, read_slot};
 use std::alloc::Global;
 
 /// The entry whose record in this format the bytes are, which were read of the slot at the place.
 fn entry_in(alloc: Global, bytes: &[u8], format: Format, at: u64) -> Result<Entry, JournalFault>
     ensures entry { IfOk result (λ entry. HasRecord entry × (bytes.now ≡ record_bytes format entry)) }
     ensures refused { IfErr result (λ fault. IsNoRecord format bytes.now at fault) }
+    ensures sized { IfErr result IsNoSize }
 {
     match entry_of(alloc, bytes, format) {
         Ok(entry) => return Ok(entry),
@@ -43,6 +43,7 @@ fn read_entry<D: Disk>(
     ensures record { IfOk result HasRecord }
     ensures entry { IfOk result (λ entry. (seen : ℕ → ℕ) → Sees (D.media disk.old) seen → seen at ≡ 165 → IsSlot seen at (record_bytes format entry)) }
     ensures refused { IfErr result (λ fault. (seen : ℕ → ℕ) → Sees (D.media disk.old) seen → RefusesSlot format seen at fault) }
+    ensures sized { IfErr result IsNoSize }
     ensures keeps { KeepsMedia (D.media disk.old) (D.media disk.new) }
     ensures extent { D.extent disk.new ≡ D.extent disk.old }
     ensures cause { Caused (D.faults disk.old) (D.faults disk.new) result }
@@ -71,6 +72,7 @@ fn read_entries<D: Disk>(
     ensures refused { IfErr result (λ fault. (seen : ℕ → ℕ) → Sees (D.media disk.old) seen →
         IsCount store.now.slots (store.now.selector % 2) seen store.now.used →
         RefusesHalf store.now.slots (store.now.selector % 2) store.now.format seen fault) }
+    ensures sized { IfErr result IsNoSize }
     ensures some { IfErr result (λ fault. 0 < store.now.used) }
     ensures keeps { KeepsMedia (D.media disk.old) (D.media disk.new) }
     ensures extent { D.extent disk.new ≡ D.extent disk.old }
@@ -92,6 +94,7 @@ fn check_rest<D: Disk>(disk: &mut D, store: &SlotStore) -> Result<(), JournalFau
         AreClosed store.now.slots (store.now.selector % 2) seen store.now.used store.now.slots) }
     ensures refused { IfErr result (λ fault. (seen : ℕ → ℕ) → Sees (D.media disk.old) seen →
         RefusesRest store.now.slots (store.now.selector % 2) seen store.now.used fault) }
+    ensures sized { IfErr result IsNoSize }
     ensures memory { IfErr result IsNoWant }
     ensures keeps { KeepsMedia (D.media disk.old) (D.media disk.new) }
     ensures extent { D.extent disk.new ≡ D.extent disk.old }
@@ -129,6 +132,7 @@ pub fn read_half<D: Disk>(
     ensures refused { IfErr result (λ fault. (seen : ℕ → ℕ) → Sees (D.media disk.old) seen →
         IsCount store.now.slots (store.now.selector % 2) seen store.now.used →
         RefusesHalf store.now.slots (store.now.selector % 2) store.now.format seen fault) }
+    ensures sized { IfErr result IsNoSize }
     ensures some { IfErr result (λ fault. fault ≡ JournalFault.NoMemory → 0 < store.now.used) }
     ensures keeps { KeepsMedia (D.media disk.old) (D.media disk.new) }
     ensures extent { D.extent disk.new ≡ D.extent disk.old }

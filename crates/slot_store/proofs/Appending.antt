@@ -1,8 +1,8 @@
 -- A record more in the half in use.
 use Rattle.std.proofs.Common.{◌≡◌, ◌≢◌, ℕ, ◌+◌, ◌*◌, ◌/◌, ◌%◌, ◌<◌, ◌≤◌, ◌⊎◌, inl, inr, List, [], ◌∷◌, ◌++◌, length, get_or, drop, sym, ap, subst, ◌∙◌, arith}
 use Rattle.std.proofs.lemmas.Bool.{cases_eq}
-use Rattle.dots_disk.specs.Media.{bytes_at}
-use Rattle.record_formats.specs.declared.format.Format.{Format}
+use Rattle.dots_host.specs.Media.{bytes_at}
+use Rattle.slot_store.specs.declared.format.Format.{Format}
 use Rattle.slot_store.specs.Layout.{place_of, IsSlot, IsHalf, IsJournal}
 use Rattle.slot_store.specs.StoreValues.{HasEither, sized}
 use Rattle.slot_store.specs.Opening.{IsOpening, IsOpened}

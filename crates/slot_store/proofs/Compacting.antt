@@ -2,16 +2,16 @@
 use Rattle.std.proofs.Common.{zero, suc, ◌≡◌, ◌≢◌, ◌⊎◌, inl, inr, ℕ, ◌+◌, ◌-◌, ◌%◌, ◌<◌, ◌≤◌, List, [], length, map, get_or, eqb, Option, sym, ap, subst, ◌∙◌, arith}
 use Rattle.std.proofs.lemmas.Bool.{cases_eq, cond_both, eqb-true, eqb-false}
 use Rattle.std.proofs.lemmas.List.{get_or-map, length-map}
-use Rattle.record_formats.specs.declared.format.Format.{Format}
-use Rattle.record_formats.specs.declared.format.Format.TheVariants.{Two}
-use Rattle.record_formats.specs.Formats.{format_byte, rewritten}
+use Rattle.slot_store.specs.declared.format.Format.{Format}
+use Rattle.slot_store.specs.declared.format.Format.TheVariants.{Two}
+use Rattle.slot_store.specs.Formats.{format_byte, rewritten}
 use Rattle.slot_store.specs.Layout.{place_of, format_place, IsHeader, HasFormat, IsSlot, IsHalf, IsJournal}
 use Rattle.slot_store.specs.StoreValues.{JournalValue, RepresentsRecords, HasEither}
 use Rattle.slot_store.specs.Copying.{Elsewhere, BesideHalf, IsCopy, AreSlots, HalfIsCopied, IsMoving, IsMoved, kept_of, other_selector}
 use Rattle.slot_store.specs.Opening.{Is}
 use Rattle.slot_store.proofs.Steps.{leaves_as, seen_at_rest, rests_as}
-use Rattle.dots_disk.specs.Media.{Media}
-use Rattle.dots_disk.specs.Becoming.{Leaves, RestsWith}
+use Rattle.dots_host.specs.Media.{Media}
+use Rattle.dots_host.specs.Becoming.{Leaves, RestsWith}
 use Rattle.slot_store.proofs.SameRecords.{same_half}
 use Rattle.slot_store.proofs.Places.{same_slot}
 use Rattle.slot_store.proofs.CopyStages.{halves_apart}

@@ -1,11 +1,11 @@
 -- The calls by which a half is copied, one after the other.
 use Rattle.std.proofs.Common.{zero, suc, ◌≡◌, ◌⊎◌, inl, inr, ℕ, ◌+◌, ◌-◌, ◌<◌, ◌≤◌, List, [], ◌∷◌, ◌++◌, length, take, get_or, Option, Some, None, refl, sym, ap, subst, ◌∙◌, append_assoc, arith}
 use Rattle.std.proofs.lemmas.List.{length-take}
-use Rattle.dots_disk.specs.Media.{Medium, Media, byte_of, all_media, written, settled, IsTorn}
-use Rattle.dots_disk.specs.Becoming.{Becomes, MayBecome, Stays, EachMedium, KeepsMedia, Leaves, RestsWith}
-use Rattle.record_formats.specs.declared.format.Format.{Format}
-use Rattle.record_formats.specs.declared.format.Format.TheVariants.{Two}
-use Rattle.record_formats.specs.Formats.{format_byte}
+use Rattle.dots_host.specs.Media.{Medium, Media, byte_of, all_media, written, settled, IsTorn}
+use Rattle.dots_host.specs.Becoming.{Becomes, MayBecome, Stays, EachMedium, KeepsMedia, Leaves, RestsWith}
+use Rattle.slot_store.specs.declared.format.Format.{Format}
+use Rattle.slot_store.specs.declared.format.Format.TheVariants.{Two}
+use Rattle.slot_store.specs.Formats.{format_byte}
 use Rattle.slot_store.specs.Layout.{place_of, format_place}
 use Rattle.slot_store.specs.Gates.{Sees}
 use Rattle.slot_store.specs.Copying.{BesideHalf, IsCopy, IsEnough, AreSlots, HalfIsCopied}

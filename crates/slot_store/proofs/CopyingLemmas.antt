@@ -2,11 +2,11 @@
 use Rattle.std.proofs.Common.{◌≡◌, ◌⊎◌, inl, inr, ℕ, ◌+◌, ◌-◌, ◌<◌, ◌≤◌, List, [], ◌∷◌, length, take, get_or, Option, sym, ap, subst, ◌∙◌, arith}
 use Rattle.std.proofs.lemmas.Bool.{cases_lt}
 use Rattle.std.proofs.lemmas.List.{get_or-take, length-take}
-use Rattle.dots_disk.specs.Media.{Medium, Media, Outside, byte_of, bytes_at, overwritten, written, settled, IsTorn}
-use Rattle.dots_disk.proofs.WrittenLemmas.{overwritten_below, overwritten_outside, overwritten_byte, byte_of_bytes_at}
-use Rattle.record_formats.specs.declared.format.Format.{Format}
-use Rattle.record_formats.specs.declared.format.Format.TheVariants.{Two}
-use Rattle.record_formats.specs.Formats.{format_byte, rewritten}
+use Rattle.dots_host.specs.Media.{Medium, Media, Outside, byte_of, bytes_at, overwritten, written, settled, IsTorn}
+use Rattle.dots_host.proofs.WrittenLemmas.{overwritten_below, overwritten_outside, overwritten_byte, byte_of_bytes_at}
+use Rattle.slot_store.specs.declared.format.Format.{Format}
+use Rattle.slot_store.specs.declared.format.Format.TheVariants.{Two}
+use Rattle.slot_store.specs.Formats.{format_byte, rewritten}
 use Rattle.slot_store.specs.Layout.{place_of, format_place, IsSlot}
 use Rattle.slot_store.specs.Gates.{Sees}
 use Rattle.slot_store.specs.Copying.{BesideHalf, IsCopy, IsEnough, HalfIsCopied}

@@ -2,11 +2,11 @@
 use Rattle.std.proofs.Common.{◌≡◌, ◌≢◌, ◌⊎◌, inl, inr, ℕ, ◌+◌, ◌*◌, ◌%◌, ◌<◌, ◌≤◌, List, [], length, Option, refl, sym, ap, subst, ◌∙◌, arith}
 use Rattle.std.specs.Prelude.{true, false}
 use Rattle.std.proofs.lemmas.Bool.{cases_order, eqb-true, eqb-false, not-true, not-false}
-use Rattle.dots_disk.specs.Media.{Media}
-use Rattle.dots_disk.specs.Becoming.{KeepsMedia, Leaves, RestsWith}
+use Rattle.dots_host.specs.Media.{Media}
+use Rattle.dots_host.specs.Becoming.{KeepsMedia, Leaves, RestsWith}
 use Rattle.slot_store.specs.declared.wanted.Wanted.TheVariants as wanted
-use Rattle.record_formats.specs.declared.format.Format.{Format}
-use Rattle.record_formats.specs.declared.format.Format.TheVariants.{Two}
+use Rattle.slot_store.specs.declared.format.Format.{Format}
+use Rattle.slot_store.specs.declared.format.Format.TheVariants.{Two}
 use Rattle.slot_store.specs.Layout.{place_of, IsHeader, IsHalf, IsBlank, IsJournal, HasRecords}
 use Rattle.slot_store.specs.Gates.{is_wanted}
 use Rattle.slot_store.specs.Gates.{NoneIs, IsFirst, Sees}

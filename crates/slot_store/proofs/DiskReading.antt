@@ -3,8 +3,8 @@ use Rattle.std.proofs.Common.{◌≡◌, inl, inr, ℕ, ◌+◌, ◌*◌, List, 
 use Rattle.std.specs.Prelude.{IfSome, false}
 use Rattle.std.proofs.lemmas.Bool.{cases_lt}
 use Rattle.std.proofs.Math.Path.{fun_ext}
-use Rattle.dots_disk.specs.Media.{Medium, Media, bytes_at, all_media}
-use Rattle.dots_disk.specs.Becoming.{Becomes, MayBecome, Stays, EachMedium, KeepsMedia, Leaves, RestsWith}
+use Rattle.dots_host.specs.Media.{Medium, Media, bytes_at, all_media}
+use Rattle.dots_host.specs.Becoming.{Becomes, MayBecome, Stays, EachMedium, KeepsMedia, Leaves, RestsWith}
 use Rattle.slot_store.specs.declared.wanted.Wanted.{Wanted}
 use Rattle.slot_store.specs.Gates.{is_wanted}
 use Rattle.slot_store.specs.Gates.{Sees, NoneIs}

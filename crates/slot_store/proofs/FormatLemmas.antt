@@ -2,13 +2,13 @@
 use Rattle.std.proofs.Common.{zero, suc, ◌≡◌, ◌≢◌, ◌⊎◌, inl, inr, ℕ, ◌+◌, ◌-◌, ◌*◌, ◌%◌, ◌<◌, ◌≤◌, List, [], length, get_or, Option, refl, sym, ap, subst, ◌∙◌, arith}
 use Rattle.std.specs.Prelude.{true, false}
 use Rattle.std.proofs.lemmas.Bool.{cases_eq, cases_lt, eqb-true, eqb-false, not-true, not-false}
-use Rattle.dots_disk.specs.Media.{Media, byte_of, bytes_at}
-use Rattle.dots_disk.specs.Becoming.{KeepsMedia, Leaves, RestsWith}
-use Rattle.dots_disk.proofs.WrittenLemmas.{byte_of_bytes_at}
+use Rattle.dots_host.specs.Media.{Media, byte_of, bytes_at}
+use Rattle.dots_host.specs.Becoming.{KeepsMedia, Leaves, RestsWith}
+use Rattle.dots_host.proofs.WrittenLemmas.{byte_of_bytes_at}
 use Rattle.slot_store.specs.declared.wanted.Wanted.TheVariants as wanted
-use Rattle.record_formats.specs.declared.format.Format.{Format}
-use Rattle.record_formats.specs.declared.format.Format.TheVariants.{Two}
-use Rattle.record_formats.specs.Formats.{format_byte}
+use Rattle.slot_store.specs.declared.format.Format.{Format}
+use Rattle.slot_store.specs.declared.format.Format.TheVariants.{Two}
+use Rattle.slot_store.specs.Formats.{format_byte}
 use Rattle.slot_store.specs.Layout.{place_of, format_place, header_of, IsHalf, IsBlank, IsJournal, HasRecords, IsZeroFrom}
 use Rattle.slot_store.specs.Opening.{IsOpening, IsOpened, Is}
 use Rattle.slot_store.specs.Gates.{is_wanted}

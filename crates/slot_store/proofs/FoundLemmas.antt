@@ -1,8 +1,8 @@
 -- The record of a slot that was read.
 use Rattle.std.proofs.Common.{◌≡◌, ℕ, ◌+◌, ◌<◌, ◌≤◌, List, length, take, drop, get_or, ap, ◌∙◌, arith, length-drop}
 use Rattle.std.proofs.lemmas.List.{get_or-take, get_or-drop, length-take}
-use Rattle.dots_disk.specs.Media.{bytes_at}
-use Rattle.dots_disk.proofs.WrittenLemmas.{byte_of_bytes_at, length_of_bytes_at, is_bytes_at}
+use Rattle.dots_host.specs.Media.{bytes_at}
+use Rattle.dots_host.proofs.WrittenLemmas.{byte_of_bytes_at, length_of_bytes_at, is_bytes_at}
 
 pub room_byte : (seen : ℕ → ℕ) (at : ℕ) (room : List ℕ) (count offset : ℕ) → room ≡ bytes_at seen at count → offset < count → get_or room offset 0 ≡ seen (at + offset)
 room_byte seen at room count offset read low = ap (λ room. get_or room offset 0) read ∙ byte_of_bytes_at seen at count offset low

@@ -2,12 +2,12 @@
 use Rattle.std.proofs.Common.{zero, suc, ◌≡◌, ◌⊎◌, inl, inr, ℕ, ◌+◌, ◌-◌, ◌<◌, ◌≤◌, List, [], ◌∷◌, ◌++◌, length, take, drop, replicate, length-drop, get_or, refl, sym, ap, ◌∙◌, arith, length-append}
 use Rattle.std.proofs.lemmas.Bool.{cases_lt}
 use Rattle.std.proofs.lemmas.List.{get_or_append_left, get_or-append_right, get_or_past, get_or-take, get_or-drop, length-take}
-use Rattle.record_formats.specs.declared.format.Format.{Format}
-use Rattle.record_formats.specs.Formats.{format_byte}
+use Rattle.slot_store.specs.declared.format.Format.{Format}
+use Rattle.slot_store.specs.Formats.{format_byte}
 use Rattle.slot_store.specs.Layout.{header_of}
 use Rattle.slot_store.proofs.FormatLemmas.{IsRest}
-use Rattle.dots_disk.specs.Media.{byte_of, overwritten}
-use Rattle.dots_disk.proofs.WrittenLemmas.{overwritten_below, overwritten_from, overwritten_outside}
+use Rattle.dots_host.specs.Media.{byte_of, overwritten}
+use Rattle.dots_host.proofs.WrittenLemmas.{overwritten_below, overwritten_from, overwritten_outside}
 
 -- a part that is written behind the parts before it, with zeros after it
 pub part_more : (bytes : ℕ → ℕ) (front part : List ℕ) (at : ℕ) → length front ≡ at → ((place : ℕ) → bytes place ≡ byte_of front place) → (place : ℕ) → overwritten bytes at part place ≡ byte_of (front ++ part) place

@@ -1,3 +1,5 @@
+pub mod Triggering
+pub mod Upgrades
 pub mod Places
 pub mod SameRecords
 pub mod Steps
@@ -16,4 +18,4 @@ pub mod HeaderLemmas
 pub mod OpenLemmas
 pub mod Counting
 pub mod FoundLemmas
-pub mod Upgrading
+pub mod UpgradedRecords

@@ -1,8 +1,8 @@
 -- A half that is copied, and then named by the selector.
 use Rattle.std.proofs.Common.{inl, inr, ℕ, ◌-◌, List, Option}
-use Rattle.dots_disk.specs.Media.{Media}
-use Rattle.dots_disk.specs.Becoming.{Leaves, RestsWith}
-use Rattle.record_formats.specs.declared.format.Format.{Format}
+use Rattle.dots_host.specs.Media.{Media}
+use Rattle.dots_host.specs.Becoming.{Leaves, RestsWith}
+use Rattle.slot_store.specs.declared.format.Format.{Format}
 use Rattle.slot_store.specs.Copying.{Elsewhere, BesideHalf, HalfIsCopied, IsMoving, IsMoved, IsSelected}
 use Rattle.slot_store.specs.Opening.{Is}
 use Rattle.slot_store.proofs.Steps.{leaves_as, leaves_then, seen_at_rest, rests_as}

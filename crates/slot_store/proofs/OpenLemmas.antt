@@ -2,17 +2,17 @@
 use Rattle.std.proofs.Common.{◌≡◌, ◌≢◌, inl, inr, ℕ, ◌+◌, ◌%◌, ◌<◌, ◌≤◌, List, [], Option, Some, None, refl, sym, ap, subst, ◌∙◌, arith}
 use Rattle.std.specs.Prelude.{Result, Ok, Err, IfOk, IfErr}
 use Rattle.std.proofs.Math.Path.{fun_ext}
-use Rattle.dots_disk.specs.Media.{Medium, Media, byte_of, bytes_at, settled}
-use Rattle.dots_disk.specs.Becoming.{Becomes, MayBecome, Stays, KeepsMedia, Leaves, RestsWith}
-use Rattle.dots_disk.proofs.WrittenLemmas.{byte_of_bytes_at}
+use Rattle.dots_host.specs.Media.{Medium, Media, byte_of, bytes_at, settled}
+use Rattle.dots_host.specs.Becoming.{Becomes, MayBecome, Stays, KeepsMedia, Leaves, RestsWith}
+use Rattle.dots_host.proofs.WrittenLemmas.{byte_of_bytes_at}
 use Rattle.slot_store.specs.declared.fault.OpenFault.{OpenFault}
 use Rattle.slot_store.specs.declared.fault.OpenFault.TheVariants as fault
-use Rattle.record_formats.specs.declared.format.Format.{Format}
-use Rattle.record_formats.specs.declared.format.Format.TheVariants.{Two}
+use Rattle.slot_store.specs.declared.format.Format.{Format}
+use Rattle.slot_store.specs.declared.format.Format.TheVariants.{Two}
 use Rattle.slot_store.specs.Layout.{format_place, IsHeader, HasFormat, IsBlank, IsJournal, HasRecords}
 use Rattle.slot_store.specs.Opening.{Is}
 use Rattle.slot_store.specs.Gates.{Sees}
-use Rattle.slot_store.specs.Refusing.{Fits, FirstWrong, HasSomeFormat, HasNoFormat, IsForm, IsOtherHeader, RefusesHeader, RefusesGates, RefusesDisk, Refuses, IsOpen, front, format as no_format, rest, size}
+use Rattle.slot_store.specs.Refusing.{Fits, FirstWrong, HasSomeFormat, HasNoFormat, IsForm, IsOtherHeader, RefusesHeader, RefusesGates, RefusesDisk, Refuses, IsSmallBy, IsNoSize, IsOpen, front, format as no_format, rest, size}
 use Rattle.slot_store.proofs.SameRecords.{gate_of_header}
 use Rattle.slot_store.proofs.Steps.{Images, Rests, leaves_as, leaves_then, rests_as}
 use Rattle.slot_store.proofs.OpeningLemmas.{rests_settled, images_at_rest}
@@ -166,3 +166,19 @@ disk_refuses slots digest extent seen (fault.SettingsChanged stored) refuses = r
 disk_refuses slots digest extent seen (fault.TooSmall needed bytes) refuses = absurd refuses
 disk_refuses slots digest extent seen fault.DiskFault refuses = tt
 disk_refuses slots digest extent seen fault.NoMemory refuses = tt
+
+-- ---- the size of the disk
+
+pub header_size : (slots : ℕ) (digest : List ℕ) (image : ℕ → ℕ) (why : OpenFault) → RefusesHeader slots digest image why → IsNoSize why
+header_size slots digest image (fault.NotOurs at) refuses = tt
+header_size slots digest image (fault.SettingsChanged stored) refuses = tt
+header_size slots digest image (fault.TooSmall needed bytes) refuses = refuses
+header_size slots digest image fault.DiskFault refuses = tt
+header_size slots digest image fault.NoMemory refuses = tt
+
+pub other_size : (slots extent : ℕ) (why : OpenFault) → IsNoSize why → IsSmallBy slots extent why
+other_size slots extent (fault.NotOurs at) other = tt
+other_size slots extent (fault.SettingsChanged stored) other = tt
+other_size slots extent (fault.TooSmall needed bytes) other = absurd other
+other_size slots extent fault.DiskFault other = tt
+other_size slots extent fault.NoMemory other = tt

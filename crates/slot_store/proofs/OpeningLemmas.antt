@@ -1,8 +1,8 @@
 -- The calls by which a slot is written and its gate opened.
 use Rattle.std.proofs.Common.{◌≡◌, ◌⊎◌, inl, inr, ℕ, ◌+◌, ◌<◌, ◌≤◌, List, [], ◌∷◌, length, sym, ap, subst, ◌∙◌, arith}
-use Rattle.dots_disk.specs.Media.{Medium, Outside, IsImage, bytes_at, overwritten, written, settled, IsTorn}
+use Rattle.dots_host.specs.Media.{Medium, Outside, IsImage, bytes_at, overwritten, written, settled, IsTorn}
 use Rattle.slot_store.specs.Opening.{IsOpening, IsOpened}
-use Rattle.dots_disk.proofs.WrittenLemmas.{overwritten_outside, overwritten_byte, bytes_written}
+use Rattle.dots_host.proofs.WrittenLemmas.{overwritten_outside, overwritten_byte, bytes_written}
 use Rattle.slot_store.proofs.Places.{same_bytes}
 use Rattle.slot_store.proofs.Steps.{Images, Rests, image_at_rest}
 

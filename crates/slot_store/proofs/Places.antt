@@ -1,6 +1,6 @@
 -- Bytes of an image that are as those of another.
 use Rattle.std.proofs.Common.{zero, suc, ◌≡◌, ℕ, ◌+◌, ◌*◌, ◌<◌, ◌≤◌, List, [], ◌∷◌, length, set, take, length-set, refl, sym, ap, subst, ◌∙◌, arith}
-use Rattle.dots_disk.specs.Media.{bytes_at}
+use Rattle.dots_host.specs.Media.{bytes_at}
 use Rattle.slot_store.specs.Layout.{IsHeader, IsSlot}
 use Rattle.slot_store.specs.Copying.{len_of}
 

@@ -2,10 +2,10 @@
 use Rattle.std.proofs.Common.{◌≡◌, ◌≢◌, ℕ, ◌+◌, ◌%◌, ◌<◌, ◌≤◌, inl, inr, List, [], ◌∷◌, ◌++◌, length, get_or, refl, sym, ap, subst, ◌∙◌, arith, length-append}
 use Rattle.std.proofs.lemmas.List.{get_or_append_left, get_or_push, ext_get_or}
 use Rattle.std.proofs.lemmas.Bool.{cases_lt}
-use Rattle.dots_disk.specs.Media.{bytes_at}
-use Rattle.record_formats.specs.declared.format.Format.{Format}
-use Rattle.record_formats.specs.declared.format.Format.TheVariants.{One, Two}
-use Rattle.record_formats.specs.Formats.{format_byte}
+use Rattle.dots_host.specs.Media.{bytes_at}
+use Rattle.slot_store.specs.declared.format.Format.{Format}
+use Rattle.slot_store.specs.declared.format.Format.TheVariants.{One, Two}
+use Rattle.slot_store.specs.Formats.{format_byte}
 use Rattle.slot_store.specs.Layout.{place_of, format_place, IsHeader, HasFormat, IsSlot, IsHalf, IsJournal, HasRecords}
 use Rattle.slot_store.proofs.Places.{Agree, same_header, same_slot}
 

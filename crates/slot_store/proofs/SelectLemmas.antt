@@ -1,8 +1,8 @@
 -- The two calls by which the half in use is changed.
 use Rattle.std.proofs.Common.{◌≡◌, ℕ, [], ◌∷◌, Option, refl, ap, ◌∙◌, arith}
-use Rattle.dots_disk.specs.Media.{Medium, Media, written, settled, IsTorn}
-use Rattle.dots_disk.specs.Becoming.{Becomes, MayBecome, Stays, Leaves, RestsWith}
-use Rattle.dots_disk.proofs.WrittenLemmas.{overwritten_outside, overwritten_byte}
+use Rattle.dots_host.specs.Media.{Medium, Media, written, settled, IsTorn}
+use Rattle.dots_host.specs.Becoming.{Becomes, MayBecome, Stays, Leaves, RestsWith}
+use Rattle.dots_host.proofs.WrittenLemmas.{overwritten_outside, overwritten_byte}
 use Rattle.slot_store.specs.Opening.{Is}
 use Rattle.slot_store.specs.Copying.{Elsewhere, IsSelected}
 use Rattle.slot_store.proofs.Steps.{Images, Rests, leaves_more, now_then, rests_with}

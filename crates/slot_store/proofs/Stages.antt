@@ -1,7 +1,7 @@
 -- The four calls of the opening of a gate, one after the other.
 use Rattle.std.proofs.Common.{◌≡◌, inr, ℕ, ◌+◌, List, [], ◌∷◌, length, Option, refl, ◌∙◌}
-use Rattle.dots_disk.specs.Media.{Medium, Media, overwritten, written, settled, IsTorn}
-use Rattle.dots_disk.specs.Becoming.{Becomes, MayBecome, Stays, Leaves, RestsWith}
+use Rattle.dots_host.specs.Media.{Medium, Media, overwritten, written, settled, IsTorn}
+use Rattle.dots_host.specs.Becoming.{Becomes, MayBecome, Stays, Leaves, RestsWith}
 use Rattle.slot_store.specs.Opening.{IsOpening, IsOpened, Is}
 use Rattle.slot_store.proofs.Steps.{Now, Images, Rests, begins, rests_now, leaves_more, leaves_lost, now_then, rests_with}
 use Rattle.slot_store.proofs.Places.{same_bytes}

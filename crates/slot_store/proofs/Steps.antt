@@ -1,7 +1,7 @@
 -- What the calls of a disk leave at each moment, one call after the other.
 use Rattle.std.proofs.Common.{◌≡◌, inl, inr, ℕ, List, [], ◌∷◌, ◌++◌, Option, Some, None, refl, sym, ap, subst, ◌∙◌, append_assoc, append-nil}
-use Rattle.dots_disk.specs.Media.{Medium, Media, Outside, IsImage, all_media}
-use Rattle.dots_disk.specs.Becoming.{Becomes, MayBecome, EachMedium, Leaves, RestsWith}
+use Rattle.dots_host.specs.Media.{Medium, Media, Outside, IsImage, all_media}
+use Rattle.dots_host.specs.Becoming.{Becomes, MayBecome, EachMedium, Leaves, RestsWith}
 
 -- the disk now has this, where it is told
 abbrev pub Now : Option Media → (Medium → Type 0) → Type 0

@@ -1,8 +1,8 @@
 -- What the calls of a store leave at each moment.
 use Rattle.std.proofs.Common.{zero, suc, ◌≡◌, inl, ℕ, ◌+◌, ◌%◌, ◌<◌, ◌≤◌, List, [], ◌∷◌, ◌++◌, length, Option, sym, ap, subst, ◌∙◌, arith}
 use Rattle.std.proofs.lemmas.List.{length_push}
-use Rattle.dots_disk.specs.Media.{Media}
-use Rattle.dots_disk.specs.Becoming.{Leaves, RestsWith}
+use Rattle.dots_host.specs.Media.{Media}
+use Rattle.dots_host.specs.Becoming.{Leaves, RestsWith}
 use Rattle.slot_store.specs.Layout.{place_of, needed_of}
 use Rattle.slot_store.specs.StoreValues.{JournalValue, RepresentsRecords, HasEither, sized}
 use Rattle.slot_store.specs.Opening.{IsOpening, IsOpened, Is}

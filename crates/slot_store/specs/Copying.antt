@@ -1,8 +1,8 @@
 -- A half that is copied to the other.
 use Rattle.std.specs.Prelude.{◌≡◌, ℕ, ◌+◌, ◌*◌, ◌<◌, ◌≤◌, ◌⊎◌, ◌==◌, ◌%◌, ◌-◌, if◌then◌else◌, List, [], length, map, slice_index, slice_index_or}
-use Rattle.record_formats.specs.declared.format.Format.{Format}
-use Rattle.record_formats.specs.declared.format.Format.TheVariants.{Two}
-use Rattle.record_formats.specs.Formats.{format_byte, rewritten}
+use Rattle.slot_store.specs.declared.format.Format.{Format}
+use Rattle.slot_store.specs.declared.format.Format.TheVariants.{Two}
+use Rattle.slot_store.specs.Formats.{format_byte, rewritten}
 use Rattle.slot_store.specs.Layout.{place_of, format_place, IsSlot}
 
 -- elsewhere than in a range all is as before

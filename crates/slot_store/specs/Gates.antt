@@ -1,6 +1,6 @@
 -- Gates that are looked for on a disk.
 use Rattle.std.specs.Prelude.{◌≡◌, ℕ, ◌+◌, ◌*◌, ◌==◌, ◌<◌, ◌≤◌, not, Bool, true, false, Option, Some, None}
-use Rattle.dots_disk.specs.Media.{Media}
+use Rattle.dots_host.specs.Media.{Media}
 use Rattle.slot_store.specs.declared.wanted.Wanted.{Wanted}
 use Rattle.slot_store.specs.declared.wanted.Wanted.TheVariants as wanted
 

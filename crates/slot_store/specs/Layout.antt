@@ -1,10 +1,10 @@
 -- Where a journal lies on a disk: a header, and behind it two halves of as many slots, one record to a slot. The layout is this server's own.
 use Rattle.std.specs.Prelude.{◌≡◌, ◌≢◌, ℕ, ◌+◌, ◌*◌, ◌%◌, ◌<◌, ◌≤◌, ◌⊎◌, List, [], ◌∷◌, ◌++◌, length, slice_index_or, codes}
 use Rattle.std.specs.Int.{w32, to_be_bytes}
-use Rattle.dots_disk.specs.Media.{byte_of, bytes_at}
-use Rattle.record_formats.specs.declared.format.Format.{Format}
-use Rattle.record_formats.specs.declared.format.Format.TheVariants.{Two}
-use Rattle.record_formats.specs.Formats.{format_byte}
+use Rattle.dots_host.specs.Media.{byte_of, bytes_at}
+use Rattle.slot_store.specs.declared.format.Format.{Format}
+use Rattle.slot_store.specs.declared.format.Format.TheVariants.{Two}
+use Rattle.slot_store.specs.Formats.{format_byte}
 
 -- the place of a slot: its gate, two bytes of length, and the record
 abbrev pub place_of : ℕ → ℕ → ℕ → ℕ

@@ -1,3 +1,4 @@
+pub mod Formats
 pub mod Layout
 pub mod StoreValues
 pub mod Opening

@@ -1,6 +1,6 @@
 -- A slot that is written behind a closed gate, which is opened by a write of its own once the bytes are on the disk.
 use Rattle.std.specs.Prelude.{◌≡◌, ℕ, ◌+◌, ◌<◌, ◌≤◌, ◌⊎◌, List, length}
-use Rattle.dots_disk.specs.Media.{bytes_at}
+use Rattle.dots_host.specs.Media.{bytes_at}
 
 -- While the gate at the place is being opened on these bytes behind it: elsewhere all is as before, and the gate is as before, or the bytes stand behind it.
 pub record IsOpening (seen : ℕ → ℕ) (at : ℕ) (bytes : List ℕ) (image : ℕ → ℕ) : Type 0 where

@@ -1,9 +1,9 @@
 -- Why a disk is refused: the first byte of its header that isn't this format's, or other settings.
 use Rattle.std.specs.Prelude.{◌≡◌, ◌≢◌, ℕ, ◌+◌, ◌%◌, ◌<◌, ◌≤◌, ◌⊎◌, List, [], length, slice_index, Result, Err, ⊤}
 use Rattle.dots_host.specs.Causes.{Rose}
-use Rattle.dots_disk.specs.Media.{byte_of}
-use Rattle.record_formats.specs.declared.format.Format.{Format}
-use Rattle.record_formats.specs.declared.format.Format.TheVariants.{Two}
+use Rattle.dots_host.specs.Media.{byte_of}
+use Rattle.slot_store.specs.declared.format.Format.{Format}
+use Rattle.slot_store.specs.declared.format.Format.TheVariants.{Two}
 use Rattle.slot_store.specs.declared.fault.OpenFault.{OpenFault}
 use Rattle.slot_store.specs.declared.fault.OpenFault.TheVariants as fault
 use Rattle.slot_store.specs.Layout.{header_of, place_of, format_place, needed_of, IsHeader, HasFormat, IsBlank, IsJournal}
@@ -97,6 +97,16 @@ Refuses slots digest extent seen fault.NoMemory = ⊤
 Refuses slots digest extent seen fault.DiskFault = ⊤
 Refuses slots digest extent seen (fault.NotOurs at) = RefusesDisk slots digest seen (fault.NotOurs at)
 Refuses slots digest extent seen (fault.SettingsChanged stored) = RefusesDisk slots digest seen (fault.SettingsChanged stored)
+
+-- Why a disk is too small, whatever it tells of its content: its size is always told, and so many slots need more bytes.
+abbrev pub IsSmallBy : ℕ → ℕ → OpenFault → Type 0
+IsSmallBy slots extent (fault.TooSmall needed found) = (needed ≡ needed_of slots) × (found ≡ extent) × (found < needed)
+IsSmallBy slots extent _ = ⊤
+
+-- the disk isn't refused for its size
+abbrev pub IsNoSize : OpenFault → Type 0
+IsNoSize (fault.TooSmall needed found) = ⊥
+IsNoSize _ = ⊤
 
 -- the first slots of the half, as many as that, have an open gate, and the next slot, if there is one, has none
 pub record IsCount (slots half : ℕ) (seen : ℕ → ℕ) (count : ℕ) : Type 0 where

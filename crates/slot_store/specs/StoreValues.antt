@@ -1,7 +1,7 @@
 -- What a journal in memory knows of its disk.
 use Rattle.std.specs.Prelude.{◌≡◌, ℕ, ◌+◌, ◌*◌, ◌/◌, ◌%◌, ◌<◌, ◌≤◌, ◌⊎◌, List, ◌∷◌, length, take, drop, Option, Some, None}
-use Rattle.dots_disk.specs.Media.{bytes_at}
-use Rattle.record_formats.specs.declared.format.Format.{Format}
+use Rattle.dots_host.specs.Media.{bytes_at}
+use Rattle.slot_store.specs.declared.format.Format.{Format}
 use Rattle.slot_store.specs.Layout.{IsJournal, HasRecords}
 use Rattle.slot_store.specs.Refusing.{IsOpen, IsCount}
 

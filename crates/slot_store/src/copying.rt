@@ -2,20 +2,20 @@
 
 ghost use Rattle.std.specs.Prelude.{◌≡◌, ℕ, ◌+◌, ◌-◌, ◌*◌, ◌%◌, ◌<◌, ◌≤◌, List, length, IfOk, OnOk};
 ghost use Rattle.dots_host.specs.Causes.{HasCause};
-ghost use Rattle.dots_disk.specs.Media.{byte_of};
-ghost use Rattle.dots_disk.specs.Becoming.{KeepsMedia, Leaves, RestsWith};
-ghost use Rattle.record_formats.specs.Formats.{upgraded, rewritten};
+ghost use Rattle.dots_host.specs.Media.{byte_of};
+ghost use Rattle.dots_host.specs.Becoming.{KeepsMedia, Leaves, RestsWith};
+ghost use Rattle.slot_store.specs.Formats.{upgraded, rewritten};
 ghost use Rattle.slot_store.specs.Layout.{needed_of, place_of, IsSlot};
 ghost use Rattle.slot_store.specs.Opening.{Is};
 ghost use Rattle.slot_store.specs.Gates.{Sees};
 ghost use Rattle.slot_store.specs.Copying.{AreSlots, IsCopy, IsEnough, BesideHalf, HalfIsCopied, IsMoving, IsMoved, other_selector, len_of};
 
+use crate::format::{Format, format_byte};
 use crate::header::InUse;
 use crate::layout::{MAX_RECORD, SLOT, format_place, place_of};
 use crate::selecting::{other_selector, select};
-use dots_disk::Disk;
-use dots_host::Failed;
-use record_formats::{Format, format_byte, upgrade};
+use crate::upgrading::upgrade;
+use dots_host::{Disk, Failed};
 
 /// Makes the slot in the room one of the second format, and answers how many bytes its gate, length and record are. A slot that says that its
 /// record is longer than a slot stays as it is.

@@ -2,28 +2,28 @@
 
 ghost use Rattle.std.specs.Prelude.{◌≡◌, ◌≢◌, ℕ, ◌+◌, ◌*◌, ◌%◌, ◌<◌, ◌≤◌, ◌⊎◌, [], List, OnOk, IfOk, IfErr};
 ghost use Rattle.dots_host.specs.Causes.{HasCause};
-ghost use Rattle.dots_disk.specs.Media.{bytes_at};
-ghost use Rattle.dots_disk.specs.Becoming.{KeepsMedia, Leaves, RestsWith};
+ghost use Rattle.dots_host.specs.Media.{bytes_at};
+ghost use Rattle.dots_host.specs.Becoming.{KeepsMedia, Leaves, RestsWith};
 ghost use Rattle.slot_store.specs.Layout.{needed_of, header_of, place_of, IsZeroFrom, IsBlank, IsJournal, HasRecords};
 ghost use Rattle.slot_store.specs.Opening.{Is};
 ghost use Rattle.slot_store.specs.Gates.{Sees};
-ghost use Rattle.slot_store.specs.Refusing.{RefusesGates, RefusesDisk, IsOpen, Caused};
+ghost use Rattle.slot_store.specs.Refusing.{RefusesGates, RefusesDisk, IsNoSize, IsOpen, Caused};
 
 use crate::fault::{DiskFault, OpenFault};
+use crate::format::Format;
 use crate::gates::find_gate;
 use crate::header::{HEADER, InUse, check_header, header};
 use crate::layout::SLOT;
 use crate::opening::open_gate;
 use crate::wanted::{OPEN, Wanted};
-use dots_disk::Disk;
-use dots_host::Failed;
-use record_formats::Format;
+use dots_host::{Disk, Failed};
 
 /// Refuses a disk without a header of whose gates one isn't zero.
 fn check_gates<D: Disk>(disk: &mut D, slots: u32) -> Result<(), OpenFault>
     requires { needed_of slots ≤ D.extent disk.old }
     ensures none { OnOk result ((seen : ℕ → ℕ) → Sees (D.media disk.old) seen → seen 0 ≢ 165 → IsBlank slots seen []) }
     ensures refused { IfErr result (λ fault. (seen : ℕ → ℕ) → Sees (D.media disk.old) seen → RefusesGates slots seen fault) }
+    ensures sized { IfErr result IsNoSize }
     ensures keeps { KeepsMedia (D.media disk.old) (D.media disk.new) }
     ensures extent { D.extent disk.new ≡ D.extent disk.old }
     ensures cause { Caused (D.faults disk.old) (D.faults disk.new) result }
@@ -50,6 +50,7 @@ pub fn format_disk<D: Disk>(disk: &mut D, slots: u32, digest: &[u8; 32]) -> Resu
     ensures formatted { OnOk result ((seen : ℕ → ℕ) → RestsWith (D.media disk.old) (Is seen) → seen 0 ≢ 165 →
         RestsWith (D.media disk.new) (λ image. IsJournal slots digest.now Format.Two image [] × (image 48 ≡ 0))) }
     ensures refused { IfErr result (λ fault. (seen : ℕ → ℕ) → RestsWith (D.media disk.old) (Is seen) → RefusesGates slots seen fault) }
+    ensures sized { IfErr result IsNoSize }
     ensures unwritten { IfErr result (λ fault. fault ≢ OpenFault.DiskFault → KeepsMedia (D.media disk.old) (D.media disk.new)) }
     ensures extent { D.extent disk.new ≡ D.extent disk.old }
     ensures cause { Caused (D.faults disk.old) (D.faults disk.new) result }
@@ -117,6 +118,7 @@ fn open_found<D: Disk>(
         found.now ≡ bytes_at seen 0 64 → RestsWith (D.media disk.new) (IsOpen slots digest.now seen in_use.selector in_use.format)) }
     ensures refused { IfErr result (λ fault. (seen : ℕ → ℕ) → RestsWith (D.media disk.old) (Is seen) →
         found.now ≡ bytes_at seen 0 64 → RefusesDisk slots digest.now seen fault) }
+    ensures sized { IfErr result IsNoSize }
     ensures unwritten { IfErr result (λ fault. fault ≢ OpenFault.DiskFault → KeepsMedia (D.media disk.old) (D.media disk.new)) }
     ensures extent { D.extent disk.new ≡ D.extent disk.old }
     ensures cause { Caused (D.faults disk.old) (D.faults disk.new) result }
@@ -145,6 +147,7 @@ pub fn open_header<D: Disk>(disk: &mut D, slots: u32, digest: &[u8; 32]) -> Resu
         RestsWith (D.media disk.new) (IsOpen slots digest.now seen in_use.selector in_use.format)) }
     ensures refused { IfErr result (λ fault. (seen : ℕ → ℕ) → Sees (D.media disk.old) seen →
         RefusesDisk slots digest.now seen fault) }
+    ensures sized { IfErr result IsNoSize }
     ensures unwritten { IfErr result (λ fault. (seen : ℕ → ℕ) → fault ≢ OpenFault.DiskFault →
         RestsWith (D.media disk.old) (Is seen) → RestsWith (D.media disk.new) (Is seen)) }
     ensures extent { D.extent disk.new ≡ D.extent disk.old }

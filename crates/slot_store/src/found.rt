@@ -2,13 +2,12 @@
 
 ghost use Rattle.std.specs.Prelude.{◌≡◌, ℕ, ◌+◌, ◌≤◌, IfOk, MatchOption};
 ghost use Rattle.dots_host.specs.Causes.{HasCause};
-ghost use Rattle.dots_disk.specs.Becoming.{KeepsMedia};
+ghost use Rattle.dots_host.specs.Becoming.{KeepsMedia};
 ghost use Rattle.slot_store.specs.Gates.{Sees};
 ghost use Rattle.slot_store.specs.StoreValues.{IsFound};
 
 use crate::layout::{MAX_RECORD, SLOT};
-use dots_disk::Disk;
-use dots_host::Failed;
+use dots_host::{Disk, Failed};
 
 /// Reads the slot at the place, and answers the length of its record, which stands in the room behind the gate and the
 /// two bytes of length, or None where it would be longer than a slot.

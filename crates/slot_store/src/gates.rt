@@ -2,7 +2,7 @@
 
 ghost use Rattle.std.specs.Prelude.{◌≡◌, ℕ, ◌+◌, ◌*◌, ◌<◌, ◌≤◌, ◌^◌, IfOk, IfErr, MatchOption};
 ghost use Rattle.dots_host.specs.Causes.{HasCause};
-ghost use Rattle.dots_disk.specs.Becoming.{KeepsMedia};
+ghost use Rattle.dots_host.specs.Becoming.{KeepsMedia};
 ghost use Rattle.slot_store.specs.Gates.{Sees, NoneIs, IsFirst};
 ghost use Rattle.slot_store.specs.Layout.{place_of, needed_of};
 ghost use Rattle.slot_store.specs.Refusing.{IsCount, Caused};
@@ -10,8 +10,7 @@ ghost use Rattle.slot_store.specs.Refusing.{IsCount, Caused};
 use crate::fault::OpenFault;
 use crate::layout::{SLOT, place_of};
 use crate::wanted::{Wanted, is_wanted};
-use dots_disk::Disk;
-use dots_host::Failed;
+use dots_host::{Disk, Failed};
 
 /// The byte at the place.
 pub fn byte_at<D: Disk>(disk: &mut D, at: u64) -> Result<u8, Failed>

@@ -1,15 +1,15 @@
 //! The header of a disk.
 
 ghost use Rattle.std.specs.Prelude.{◌≡◌, ◌≢◌, ℕ, ◌+◌, ◌<◌, ◌≤◌, ◌⊎◌, length, slice_index, MatchOption, IfOk, IfErr, take};
-ghost use Rattle.dots_disk.specs.Media.{byte_of, overwritten};
-ghost use Rattle.record_formats.specs.Formats.{format_byte};
+ghost use Rattle.dots_host.specs.Media.{byte_of, overwritten};
+ghost use Rattle.slot_store.specs.Formats.{format_byte};
 ghost use Rattle.slot_store.specs.Layout.{header_of, IsHeader, HasFormat};
 ghost use Rattle.slot_store.specs.Refusing.{RefusesHeader};
 
 use crate::fault::OpenFault;
+use crate::format::{Format, format_byte};
 use crate::layout::{SELECTOR, format_place};
 use crate::wanted::OPEN;
-use record_formats::{Format, format_byte};
 
 /// The bytes of a header, the selector, the formats and the zeros at its end among them.
 pub const HEADER: usize = 64;

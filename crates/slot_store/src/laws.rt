@@ -3,7 +3,7 @@
 ghost use Rattle.std.specs.Prelude.{◌≡◌, ℕ, List};
 ghost use Rattle.slot_store.specs.Layout.{HasRecords};
 
-use record_formats::Format;
+use crate::format::Format;
 
 /// An image of a disk holds one list of records at most, of one format.
 pub fn one_list()

@@ -2,12 +2,11 @@
 
 ghost use Rattle.std.specs.Prelude.{◌≡◌, ℕ, ◌+◌, ◌<◌, ◌≤◌, ◌^◌, length, OnOk};
 ghost use Rattle.dots_host.specs.Causes.{HasCause};
-ghost use Rattle.dots_disk.specs.Becoming.{Leaves, RestsWith};
+ghost use Rattle.dots_host.specs.Becoming.{Leaves, RestsWith};
 ghost use Rattle.slot_store.specs.Opening.{IsOpening, IsOpened, Is};
 
 use crate::wanted::OPEN;
-use dots_disk::Disk;
-use dots_host::Failed;
+use dots_host::{Disk, Failed};
 
 /// Writes the bytes behind the gate at the place, and opens the gate by a write of its own once they are on the disk.
 pub fn open_gate<D: Disk>(disk: &mut D, at: u64, bytes: &[u8]) -> Result<(), Failed>

@@ -2,13 +2,12 @@
 
 ghost use Rattle.std.specs.Prelude.{◌≡◌, ℕ, ◌+◌, ◌%◌, ◌<◌, ◌≤◌, OnOk};
 ghost use Rattle.dots_host.specs.Causes.{HasCause};
-ghost use Rattle.dots_disk.specs.Becoming.{Leaves, RestsWith};
+ghost use Rattle.dots_host.specs.Becoming.{Leaves, RestsWith};
 ghost use Rattle.slot_store.specs.Opening.{Is};
 ghost use Rattle.slot_store.specs.Copying.{Elsewhere, IsSelected, other_selector};
 
 use crate::layout::SELECTOR;
-use dots_disk::Disk;
-use dots_host::Failed;
+use dots_host::{Disk, Failed};
 
 /// The selector with its lowest bit changed.
 pub fn other_selector(selector: u8) -> u8

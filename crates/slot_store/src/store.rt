@@ -1,16 +1,17 @@
 ghost use Rattle.std.specs.Prelude.{◌≡◌, ◌≢◌, ℕ, ◌+◌, ◌*◌, ◌%◌, ◌<◌, ◌≤◌, List, [], ◌∷◌, ◌++◌, length, map, IfOk, IfErr, OnOk, OnErr};
 ghost use Rattle.dots_host.specs.Causes.{HasCause};
-ghost use Rattle.dots_disk.specs.Becoming.{Leaves, RestsWith};
-ghost use Rattle.record_formats.specs.Formats.{rewritten};
+ghost use Rattle.dots_host.specs.Becoming.{Leaves, RestsWith};
+ghost use Rattle.slot_store.specs.Formats.{rewritten};
 ghost use Rattle.slot_store.specs.Layout.{place_of, needed_of, HasRecords};
 ghost use Rattle.slot_store.specs.Opening.{Is};
 ghost use Rattle.slot_store.specs.Gates.{Sees};
-ghost use Rattle.slot_store.specs.Refusing.{Refuses, Caused};
+ghost use Rattle.slot_store.specs.Refusing.{Refuses, IsSmallBy, Caused};
 ghost use Rattle.slot_store.specs.StoreValues.{RepresentsRecords, IsKnown, HasEither};
 ghost use Rattle.slot_store.specs.Copying.{AreSlots, kept_of, other_selector};
 
 use crate::copying::move_half;
 use crate::fault::{DiskFault, OpenFault};
+use crate::format::Format;
 use crate::formatting::open_header;
 use crate::gates::count_open;
 use crate::header::InUse;
@@ -18,8 +19,7 @@ use crate::layout::{SLOT, needed_of, place_of};
 use crate::opening::open_gate;
 use crate::selecting::other_selector;
 use crate::sizing::put_sized;
-use dots_disk::Disk;
-use record_formats::Format;
+use dots_host::Disk;
 use std::alloc::Global;
 use std::marker::Model;
 
@@ -72,6 +72,9 @@ impl SlotStore {
             RestsWith (D.media disk.new) (IsKnown store digest.now seen)) }
         ensures refused { IfErr result (λ fault. (seen : ℕ → ℕ) → Sees (D.media disk.old) seen →
             Refuses slots digest.now (D.extent disk.old) seen fault) }
+
+        // A disk whose content isn't told is too small for the same cause.
+        ensures small { IfErr result (IsSmallBy slots (D.extent disk.old)) }
 
         // Where it is refused, and no call of the disk failed, nothing was written.
         ensures unwritten { IfErr result (λ fault. (seen : ℕ → ℕ) → fault ≢ OpenFault.DiskFault →

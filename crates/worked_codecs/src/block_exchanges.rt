@@ -1,8 +1,7 @@
 //! Requests, the replies of a server, and what leaves of these.
 
 use coap_block::BlockHost;
-use dots_disk::MemoryHost;
-use dots_host::{Act, Bytes, Event, MAX_EVENT_BYTES, Out, OwnedOut, What, Wire};
+use dots_host::{Act, Bytes, Event, MAX_EVENT_BYTES, MemoryHost, Out, OwnedOut, What, Wire};
 use std::alloc::Global;
 
 /// The path of a GET of one mitigation.

@@ -1,8 +1,7 @@
 //! Notifications that are longer than a block, and GETs of their rest.
 
 use coap_block::BlockHost;
-use dots_disk::MemoryHost;
-use dots_host::{Act, Bytes, Event, MAX_EVENT_BYTES, Out, OwnedOut, Wire};
+use dots_host::{Act, Bytes, Event, MAX_EVENT_BYTES, MemoryHost, Out, OwnedOut, Wire};
 use std::alloc::Global;
 
 /// What comes before a send.

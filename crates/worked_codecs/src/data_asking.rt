@@ -6,8 +6,7 @@ use crate::row::Row;
 use acl_lists::{Acl, Alias};
 use data_channel::{RestReject, RestRequest, location_of, read_rest};
 use http_cut::HttpRequest;
-use json_room::JsonRoom;
-use list_json::{acl_value, alias_value};
+use list_json::{JsonRoom, acl_value, alias_value};
 use std::alloc::Global;
 use std::str;
 

@@ -1,7 +1,7 @@
 //! Texts of JSON (RFC 8259) that are read one after the other in one room.
 
 use crate::row::Row;
-use json_room::{JsonRoom, read_json};
+use list_json::{JsonRoom, read_json};
 use std::alloc::Global;
 
 /// The value that the text is, printed, or its fault.

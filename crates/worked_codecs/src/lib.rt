@@ -1,5 +1,6 @@
 //! Worked bytes and calls of the crates below the server: messages of CoAP, and their frames in a stream, items of CBOR and hexadecimal text; deadlines; requests,
-//! replies and sessions of the signal channel, and a client of it; and streams of HTTP, requests and replies of the data channel.
+//! replies and sessions of the signal channel, and a client of it; streams of HTTP, requests and replies of the data channel; and what is answered
+//! to requests of two peers, one after the other, over one registry, however a connection is cut into pieces.
 //!
 //! Each row is put to public calls. The expected values come from the RFCs, their examples and the protocol's documents, and not from
 //! the program.
@@ -42,6 +43,8 @@ mod exchange_rows;
 #[cfg(test)]
 mod frame_rows;
 #[cfg(test)]
+mod front_rows;
+#[cfg(test)]
 mod head_rows;
 #[cfg(test)]
 mod json_rows;
@@ -49,6 +52,10 @@ mod json_rows;
 mod line_rows;
 #[cfg(test)]
 mod list_rows;
+#[cfg(test)]
+mod made_rows;
+#[cfg(test)]
+mod message_rows;
 #[cfg(test)]
 mod path_rows;
 #[cfg(test)]
@@ -59,6 +66,8 @@ mod reply_rows;
 mod request_rows;
 #[cfg(test)]
 mod row;
+#[cfg(test)]
+mod signal_rows;
 #[cfg(test)]
 mod stream_rows;
 #[cfg(test)]

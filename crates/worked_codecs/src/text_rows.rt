@@ -3,9 +3,8 @@
 use crate::row::Row;
 use crate::tables::{Rows, Worded, all_hold};
 use cbor_profile::CborFault;
-use coap_message::CoapFault;
-use message_text::{Printed, lines_of};
-use plain_text::{MAX_BYTES, read_hex};
+use coap_message::{CoapFault, Printed, lines_of};
+use dots_lists::{MAX_BYTES, read_hex};
 use std::alloc::Global;
 
 /// Pairs of digits and the bytes that are read of them, and texts of which none are read.

@@ -7,8 +7,7 @@ use crate::images::{WAYS, image_after, image_of};
 use crate::runs::{Asked, run_over};
 use crate::tables::Row;
 use crate::texts::{TWO, TWO_BYTES};
-use dots_disk::MemoryHost;
-use dots_host::{Act, Event, MemorySink, OwnedOut};
+use dots_host::{Act, Event, MemoryHost, MemorySink, OwnedOut};
 use std::alloc::Global;
 
 /// More calls than a run of a plan makes.

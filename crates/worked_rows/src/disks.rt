@@ -5,8 +5,7 @@ use crate::events::push_all;
 use crate::images::{holds_all, image_of};
 use crate::runs::run_of;
 use crate::tables::Row;
-use dots_disk::MemoryHost;
-use dots_host::MemorySink;
+use dots_host::{MemoryHost, MemorySink};
 use std::alloc::Global;
 
 /// A host whose disk has this size and holds the image.

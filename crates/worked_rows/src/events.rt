@@ -1,7 +1,6 @@
 //! Events that come to a host in memory.
 
-use dots_disk::MemoryHost;
-use dots_host::{Bytes, Event};
+use dots_host::{Bytes, Event, MemoryHost};
 use std::alloc::Global;
 
 fn bytes_of(alloc: Global, digits: &str) -> Option<Bytes> {

@@ -4,7 +4,7 @@ use crate::images::{holds_all, image_of};
 use crate::registry::entries::settings;
 use crate::tables::Row;
 use crate::texts::{TWO, TWO_BYTES};
-use dots_disk::{Disk, MemoryHost};
+use dots_host::{Disk, MemoryHost};
 use dots_settings::Settings;
 use slot_journal::{Journal, bytes_needed};
 use std::alloc::Global;

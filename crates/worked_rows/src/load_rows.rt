@@ -1,8 +1,7 @@
 //! Generated runs. Their draws are drawn here once more, by their definition.
 
 use crate::runs::{Asked, run_over};
-use dots_disk::MemoryHost;
-use dots_host::MemorySink;
+use dots_host::{MemoryHost, MemorySink};
 use dots_run::run_load;
 use std::alloc::Global;
 

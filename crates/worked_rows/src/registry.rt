@@ -1,8 +1,8 @@
 //! Worked tables: what the libraries of the registry answer on rows of text.
 //!
 //! Each row is put to the public calls of a library: `registry_rows` to `dots_registry`, `history_rows` to the plain programs of
-//! `dots_history`, `dots_laws` and `acl_lists`, `judgement_rows` to `conflict_rules`, `exchange_rows` to `coap_observe` and
-//! `coap_exchange`, and `record_rows` to `entry_records` and `slot_journal`. The expected values come from the protocol's documents.
+//! `dots_history` and `acl_lists`, `judgement_rows` to `conflict_rules`, `exchange_rows` to `coap_observe` and
+//! `coap_exchange`, and `record_rows` to `slot_journal`. The expected values come from the protocol's documents.
 //!
 //! [`tables`] says how a table is read, [`entries`] how an entry is, and [`texts`] has the names that stand in them.
 

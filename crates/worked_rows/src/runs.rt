@@ -1,8 +1,7 @@
 //! Runs of the program.
 
 use crate::tables::Row;
-use dots_disk::Host;
-use dots_host::{MemorySink, MemorySource, NoMemory};
+use dots_host::{Host, MemorySink, MemorySource, NoMemory};
 use dots_run::run;
 use std::alloc::Global;
 

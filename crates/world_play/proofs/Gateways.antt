@@ -6,11 +6,11 @@ use Rattle.dots_host.specs.Acts.{Timed}
 use Rattle.dots_host.specs.Memory.{told}
 use Rattle.dots_host.specs.Runs.{Gives}
 use Rattle.dots_host.proofs.RunLemmas.{added_weaker}
-use Rattle.dots_disk.specs.Stored.{media_of}
-use Rattle.dots_disk.specs.Hosted.{HandsOut}
+use Rattle.dots_host.specs.Stored.{media_of}
+use Rattle.dots_host.specs.Hosted.{HandsOut}
 use Rattle.dots_world.specs.declared.party.Packet.{Packet}
 use Rattle.dots_world.specs.declared.party.Party.TheVariants.{Gateway as the_gateway}
-use Rattle.gateway_store.specs.Stores.{IsOn}
+use Rattle.gateway_agent.specs.Stores.{IsOn}
 use Rattle.gateway_agent.specs.Passing.{GatewayState}
 use Rattle.gateway_agent.specs.Turning.{Took}
 use Rattle.world_play.specs.declared.parties.Parties.{Parties}

@@ -1,9 +1,11 @@
+mod Events
+mod RunLeading
 pub mod Sends
 pub mod Packets
 pub mod Blank
 pub mod Gateways
 pub mod Draining
-pub mod Asks
+pub mod AskLemmas
 pub mod Servers
 pub mod Handed
 pub mod Routes

@@ -8,9 +8,9 @@ use Rattle.dots_host.specs.Acts.{WireAct, took, gave, Timed, wire_acts}
 use Rattle.dots_host.specs.Memory.{told}
 use Rattle.dots_host.specs.Runs.{Added, Gives, IsSend, each_telling, outs_of}
 use Rattle.dots_host.proofs.RunLemmas.{outs_back}
-use Rattle.dots_disk.specs.Media.{Media}
-use Rattle.dots_disk.specs.Becoming.{RestsWith, KeepsMedia}
-use Rattle.dots_disk.specs.Hosted.{Hosted, HandsOut}
+use Rattle.dots_host.specs.Media.{Media}
+use Rattle.dots_host.specs.Becoming.{RestsWith, KeepsMedia}
+use Rattle.dots_host.specs.Hosted.{Hosted, HandsOut}
 use Rattle.world_play.specs.Calls.{sent_in, acts_in}
 
 -- ---- the acts of a wire among calls that were added

@@ -10,10 +10,10 @@ use Rattle.dots_host.specs.Acts.{Timed, took}
 use Rattle.dots_host.specs.Memory.{told}
 use Rattle.dots_host.specs.Runs.{Turn, Added, Gives, each_telling, owed_in, outs_of}
 use Rattle.dots_host.proofs.RunLemmas.{added_none, added_weaker, added_then, outs_back}
-use Rattle.dots_disk.specs.Media.{Media}
-use Rattle.dots_disk.specs.Becoming.{RestsWith}
-use Rattle.dots_disk.specs.Stored.{media_of}
-use Rattle.dots_disk.specs.Hosted.{HandsOut}
+use Rattle.dots_host.specs.Media.{Media}
+use Rattle.dots_host.specs.Becoming.{RestsWith}
+use Rattle.dots_host.specs.Stored.{media_of}
+use Rattle.dots_host.specs.Hosted.{HandsOut}
 use Rattle.dots_settings.specs.Settings.{SettingsValue}
 use Rattle.dots_world.specs.declared.party.Packet.{Packet}
 use Rattle.dots_world.specs.declared.party.Party.TheVariants.{Server as the_server}

@@ -1,3 +1,10 @@
+pub mod Plans
+pub mod Asks
+pub mod Drawing
+pub mod Running
+pub mod Report
+pub mod Commands
+pub mod Outcomes
 pub mod Calls
 pub mod Parties
 pub mod Packets

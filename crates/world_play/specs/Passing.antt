@@ -1,13 +1,13 @@
 -- What the gateway of a world keeps, and what it does.
 use Rattle.std.specs.Prelude.{◌≡◌, ℕ, ◌≤◌, List, ◌++◌, flat_map, Some}
-use Rattle.dots_disk.specs.Becoming.{RestsWith}
-use Rattle.dots_disk.specs.Stored.{media_of}
+use Rattle.dots_host.specs.Becoming.{RestsWith}
+use Rattle.dots_host.specs.Stored.{media_of}
 use Rattle.dots_host.specs.declared.event.Event.{Event}
 use Rattle.dots_host.specs.declared.out.OwnedOut.{OwnedOut}
 use Rattle.dots_world.specs.declared.party.Packet.{Packet}
 use Rattle.dots_world.specs.declared.party.Party.TheVariants.{Gateway as the_gateway}
 use Rattle.slot_store.specs.Layout.{needed_of}
-use Rattle.gateway_store.specs.Stores.{IsOn}
+use Rattle.gateway_agent.specs.Stores.{IsOn}
 use Rattle.gateway_agent.specs.Keeping.{AgentValue, AreJoined, IsFor, agent}
 use Rattle.gateway_agent.specs.Keeping as keeping
 use Rattle.gateway_agent.specs.Passing.{GatewayState, Passes}

@@ -1,7 +1,7 @@
 -- What the server of a world keeps, and what it does.
 use Rattle.std.specs.Prelude.{◌≡◌, ℕ, ◌≤◌, List, [], ◌∷◌, ◌++◌, map, flat_map, Some}
-use Rattle.dots_disk.specs.Becoming.{RestsWith}
-use Rattle.dots_disk.specs.Stored.{media_of}
+use Rattle.dots_host.specs.Becoming.{RestsWith}
+use Rattle.dots_host.specs.Stored.{media_of}
 use Rattle.dots_host.specs.declared.act.Act.{Act}
 use Rattle.dots_host.specs.declared.event.Event.{Event}
 use Rattle.dots_host.specs.declared.event.Event.TheVariants as event

@@ -4,8 +4,8 @@ ghost use Rattle.std.specs.Prelude.{◌≡◌, ◌≤◌, ◌<◌, ◌^◌, ℕ,
 ghost use Rattle.std.specs.List.{AllByRecursion};
 ghost use Rattle.dots_lists.specs.Name.{is_name};
 ghost use Rattle.ip_scope.specs.Prefix.{IsPrefix};
-ghost use Rattle.agent_messages.specs.Asked.{IsRange, CanAsk};
-ghost use Rattle.agent_messages.specs.Grants.{IsGranted};
+ghost use Rattle.dots_client.specs.Asked.{IsRange, CanAsk};
+ghost use Rattle.dots_client.specs.Grants.{IsGranted};
 ghost use Rattle.dots_keys.specs.Askable.{AreFew};
 ghost use Rattle.dots_world.specs.Worlds.{mitigates, CanSay};
 

@@ -9,12 +9,10 @@ ghost use Rattle.world_play.specs.Passing.{IsReady, IsIn, HasPassed};
 
 use crate::parties::Parties;
 use crate::sending::{post, since};
-use dots_disk::MemoryHost;
 use dots_gateway::GatewayCore;
-use dots_host::{Got, NoMemory, What};
+use dots_host::{Got, MemoryHost, NoMemory, What};
 use dots_world::{Packet, Party};
-use gateway_agent::{begin, restart, take};
-use gateway_store::Store;
+use gateway_agent::{Store, begin, restart, take};
 use std::alloc::Global;
 
 /// The bytes of a disk: as many as any settings need. What isn't written takes no memory.

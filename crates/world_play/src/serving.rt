@@ -11,8 +11,7 @@ ghost use Rattle.world_play.specs.Serving.{IsReady, IsIn, HasServed, HasRestarte
 use crate::parties::Parties;
 use crate::passing::DISK_SIZE;
 use crate::sending::{post, since, tell};
-use dots_disk::MemoryHost;
-use dots_host::{Got, NoMemory, Tape, What};
+use dots_host::{Got, MemoryHost, NoMemory, Tape, What};
 use dots_server::Server;
 use dots_settings::Settings;
 use dots_world::{Packet, Party};

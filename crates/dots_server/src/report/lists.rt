@@ -11,10 +11,9 @@ ghost use Rattle.dots_server.specs.Lines.{active_lists, only_where, list_front, 
 use super::{put_protocol, put_range};
 use crate::gathering::Gatherer;
 use crate::naming::name_of;
-use acl_lists::{Ace, PortTest};
+use acl_lists::{Ace, AclRow, PortTest};
 use dots_host::Sink;
 use dots_settings::Settings;
-use filter_rows::AclRow;
 use filter_table::FilterTable;
 use ip_scope::{Prefix, write_prefix};
 

@@ -18,8 +18,7 @@ ghost use Rattle.std.specs.Prelude.{◌≡◌, ◌+◌, ◌≤◌, length, true}
 use crate::hosts::around::Around;
 use crate::hosts::set_clock::SetClock;
 use crate::hosts::words::{NO_NUMBER, bytes_of, first_word, number, word};
-use dots_disk::{Disk, Host};
-use dots_host::{MAX_EVENT_BYTES, Out, Sent, What, Wire};
+use dots_host::{Disk, Host, MAX_EVENT_BYTES, Out, Sent, What, Wire};
 
 type Room = [u8; MAX_EVENT_BYTES];
 

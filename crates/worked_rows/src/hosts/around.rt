@@ -3,8 +3,8 @@
 use crate::hosts::acts::writes;
 use crate::hosts::set_clock::SetClock;
 use crate::hosts::words::{first_word, number, word};
-use dots_disk::Disk;
 use dots_edge::FileSocketHost;
+use dots_host::Disk;
 use std::fs;
 use std::io::{Read, Write};
 use std::net::{Ipv4Addr, Net, SocketAddr, TcpStream, UdpSocket};

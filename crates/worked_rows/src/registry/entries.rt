@@ -10,9 +10,9 @@ use dots_history::Entry;
 use dots_host::MemorySource;
 use dots_lists::List;
 use dots_settings::{Settings, read_settings};
-use entry_records::entry_of;
 use ip_scope::{Family, Prefix, parse_prefix};
-use record_formats::Format;
+use slot_journal::entry_of;
+use slot_store::Format;
 use std::alloc::Global;
 use std::test::Fail;
 

@@ -6,9 +6,8 @@ use crate::registry::spelled::Spelled;
 use crate::registry::words::{NONE, digit, flag, number};
 use acl_lists::{Acl, Alias, Packet, ace_matches};
 use dots_history::{
-    Change, Entry, ends, held, is_live_after, is_within_bounds, mitigations, remembered,
+    Change, Entry, ends, held, is_calm, is_live_after, is_within_bounds, mitigations, remembered,
 };
-use dots_laws::is_calm;
 use dots_lists::List;
 use dots_settings::Settings;
 use std::alloc::Global;

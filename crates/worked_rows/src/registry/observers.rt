@@ -10,7 +10,7 @@ use crate::registry::spelled::Spelled;
 use crate::registry::words::{NONE, byte, digit, small, three, two};
 use coap_message::Token;
 use coap_observe::{DueAmong, Notice, Observer, Observers};
-use dots_heads::Content;
+use dots_keys::Content;
 use dots_lists::Name;
 use dots_settings::Settings;
 use std::alloc::Global;

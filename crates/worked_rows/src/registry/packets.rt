@@ -1,9 +1,8 @@
 //! Packets, and what is told of their fates.
 
 use crate::registry::words::{NONE, digit};
-use acl_lists::Packet;
+use acl_lists::{Fate, Packet};
 use dots_lists::Name;
-use filter_rows::Fate;
 use ip_scope::{Addr, Family};
 
 pub fn v4(number: u32) -> Addr {

@@ -4,8 +4,8 @@ use crate::registry::entries::push_words;
 use crate::registry::spelled::Spelled;
 use crate::registry::words::flag;
 use dots_history::{Entry, is_within_bounds};
-use entry_records::{EntryFault, MAX_RECORD, entry_of, record_into, record_len};
-use record_formats::Format;
+use slot_journal::{EntryFault, MAX_RECORD, entry_of, record_into, record_len};
+use slot_store::Format;
 use std::alloc::Global;
 use std::test::Fail;
 

@@ -15,7 +15,7 @@ use crate::registry::spelled::Spelled;
 use crate::registry::survivors::spell_survivor;
 use crate::registry::texts::{SETTINGS, TIGHT};
 use dots_settings::Settings;
-use record_formats::Format;
+use slot_store::Format;
 use std::alloc::Global;
 use std::process::Abort;
 use std::test::Fail;

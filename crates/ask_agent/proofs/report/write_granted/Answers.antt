@@ -1,4 +1,4 @@
-use Rattle.dots_agents.proofs.Wrote.{begun_more, lost_one}
+use Rattle.dots_host.proofs.Wrote.{begun_more, lost_one}
 use Rattle.ask_agent.specs.Report.{granted_line}
 use Rattle.ask_agent.proofs.report.write_granted.Goals as goal
 

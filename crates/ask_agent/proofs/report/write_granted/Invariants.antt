@@ -1,4 +1,4 @@
-use Rattle.dots_agents.proofs.Wrote.{Begun}
+use Rattle.dots_host.proofs.Wrote.{Begun}
 use Rattle.ask_agent.specs.Report.{granted_line}
 use Rattle.ask_agent.proofs.report.write_granted.Given as goal
 

@@ -1,5 +1,5 @@
 use Rattle.std.proofs.Common.{refl}
-use Rattle.dots_agents.proofs.Wrote.{lost_one}
+use Rattle.dots_host.proofs.Wrote.{lost_one}
 use Rattle.ask_agent.specs.Report.{unsent_line}
 use Rattle.ask_agent.proofs.report.write_unsent.Goals as goal
 

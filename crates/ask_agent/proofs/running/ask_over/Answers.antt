@@ -1,6 +1,6 @@
 use Rattle.std.proofs.Common.{Ok, Err, refl, subst}
-use Rattle.dots_agents.specs.declared.turns.Halt.{Halt}
-use Rattle.dots_agents.specs.Stopping.{StopsBy}
+use Rattle.dots_host.specs.declared.turns.Halt.{Halt}
+use Rattle.dots_host.specs.Stopping.{StopsBy}
 use Rattle.ask_agent.specs.declared.ending.AskEnding.TheVariants as ending
 use Rattle.ask_agent.proofs.Ran.{ended, has_asked}
 use Rattle.ask_agent.proofs.running.ask_over.Goals as goal

@@ -1,8 +1,8 @@
 use Rattle.std.proofs.Common.{◌≡◌, ◌+◌, drop, length, ap, ◌∙◌, arith}
-use Rattle.dots_laws.specs.KeptPlaces.{union}
+use Rattle.dots_history.specs.KeptPlaces.{union}
 use Rattle.coap_exchange.specs.Rings.{slots_of, all_slots}
 use Rattle.coap_exchange.proofs.Unions.{put_ring}
-use Rattle.dots_laws.proofs.Unions.{union_longer}
+use Rattle.dots_history.proofs.Unions.{union_longer}
 use Rattle.coap_exchange.proofs.remembered.put_slots.Goals as goal
 
 pub slots-requires : goal.slots-requires

@@ -1,6 +1,6 @@
 -- what is left, put to what is there, comes to all
 use Rattle.std.proofs.Common.{◌≡◌, drop}
-use Rattle.dots_laws.specs.KeptPlaces.{union}
+use Rattle.dots_history.specs.KeptPlaces.{union}
 use Rattle.coap_exchange.specs.Rings.{all_slots}
 use Rattle.coap_exchange.proofs.remembered.put_slots.Given as goal
 

@@ -1,9 +1,9 @@
 use Rattle.std.proofs.Common.{◌≡◌, ◌+◌, drop, length, ap, ◌∙◌, arith}
 use Rattle.dots_history.specs.Slots.{placed}
-use Rattle.dots_laws.specs.KeptPlaces.{union}
+use Rattle.dots_history.specs.KeptPlaces.{union}
 use Rattle.coap_exchange.specs.Rings.{slots_of}
 use Rattle.coap_exchange.proofs.Unions.{put_message}
-use Rattle.dots_laws.proofs.Unions.{union_longer}
+use Rattle.dots_history.proofs.Unions.{union_longer}
 use Rattle.coap_exchange.proofs.ring.put_slots.Goals as goal
 
 pub put-requires : goal.put-requires

@@ -1,6 +1,6 @@
 use Rattle.std.proofs.Common.{ap, sym, subst, ◌∙◌}
 use Rattle.std.proofs.lemmas.Bool.{eq-eqb}
-use Rattle.linked_orders.specs.Orders.{has_slot}
+use Rattle.coap_observe.specs.Orders.{has_slot}
 use Rattle.coap_observe.specs.Chains.{ChainsValue, room_in, one_left, IsNowhere, AreChained}
 use Rattle.coap_observe.specs.Rolls.{RollValue, one_at, without_key}
 use Rattle.coap_observe.proofs.Chaining.{chained_less, own_has, room_left}

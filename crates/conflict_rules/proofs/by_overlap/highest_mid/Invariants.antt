@@ -1,6 +1,6 @@
 -- the greater of the mid found and of those of the rest is the highest of all
 use Rattle.std.proofs.Common.{◌≡◌, drop, map}
-use Rattle.filter_rows.proofs.Greatest.{greater_of}
+use Rattle.acl_lists.proofs.Greatest.{greater_of}
 use Rattle.conflict_rules.specs.ByOverlap.{highest_mid}
 use Rattle.conflict_rules.proofs.by_overlap.highest_mid.Given as goal
 

@@ -1,7 +1,7 @@
 use Rattle.std.proofs.Common.{◌-◌, List, ◌∷◌, [], ◌++◌, map, ap, ◌∙◌, append_assoc}
 use Rattle.std.proofs.lemmas.Result.{IfOk-weaker}
 use Rattle.coap_message.specs.Message.{CoapOption}
-use Rattle.dots_heads.specs.Options.{values_of, value_of}
+use Rattle.dots_keys.specs.Options.{values_of, value_of}
 use Rattle.dots_gateway.specs.Forwarding.{option_with, option_for, path_for}
 use Rattle.dots_gateway.specs.WantedValues.{passage_value}
 use Rattle.dots_gateway.proofs.forwarding.passed_options.Goals as goal

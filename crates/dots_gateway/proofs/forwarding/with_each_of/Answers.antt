@@ -1,7 +1,7 @@
 use Rattle.std.proofs.Common.{◌++◌, List, sym, ap, subst, map}
 use Rattle.std.specs.List.{AllByRecursion}
 use Rattle.coap_message.specs.Message.{CoapOption}
-use Rattle.dots_heads.specs.Options.{values_of}
+use Rattle.dots_keys.specs.Options.{values_of}
 use Rattle.dots_gateway.specs.Forwarding.{option_with}
 use Rattle.dots_gateway.proofs.Texts.{IsShortValue, values_short}
 use Rattle.dots_gateway.proofs.forwarding.with_each_of.Goals as goal

@@ -2,7 +2,7 @@
 use Rattle.std.proofs.Common.{◌≡◌, ◌≤◌, ◌++◌, map, length}
 use Rattle.std.specs.List.{AllByRecursion}
 use Rattle.coap_message.specs.Message.{last_number}
-use Rattle.dots_heads.specs.Options.{values_of}
+use Rattle.dots_keys.specs.Options.{values_of}
 use Rattle.dots_gateway.specs.Forwarding.{option_with}
 use Rattle.dots_gateway.proofs.Texts.{IsShortValue}
 use Rattle.dots_gateway.proofs.forwarding.with_each_of.Given as goal

@@ -1,9 +1,9 @@
 use Rattle.std.proofs.Common.{sym, ap, ◌∙◌}
 use Rattle.std.specs.Prelude.{Some}
 use Rattle.std.specs.Option.{option_copied}
-use Rattle.dots_heads.specs.declared.path.Resource.{Resource}
-use Rattle.dots_heads.specs.Paths.{mitigation}
-use Rattle.dots_heads.specs.PathValues.{resource_value}
+use Rattle.dots_keys.specs.declared.path.Resource.{Resource}
+use Rattle.dots_keys.specs.Paths.{mitigation}
+use Rattle.dots_keys.specs.PathValues.{resource_value}
 use Rattle.dots_gateway.proofs.Texts.{texts_short}
 use Rattle.dots_gateway.proofs.wanted.read_resource.Goals as goal
 

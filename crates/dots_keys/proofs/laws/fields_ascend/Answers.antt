@@ -2,7 +2,7 @@ use Rattle.std.proofs.Common.{◌≡◌, ℕ, Bool, true, false, List, cond, Ok,
 use Rattle.cbor_profile.specs.Tree.{Pairs, mapping}
 use Rattle.cbor_profile.specs.Valid.{IsSound}
 use Rattle.dots_keys.specs.Fields.{Field, fields_in, all_unsigned, Ascend}
-use Rattle.dots_heads.specs.Results.{invalid}
+use Rattle.dots_keys.specs.Results.{invalid}
 use Rattle.dots_keys.proofs.Ascending.{fields_ascend}
 use Rattle.dots_keys.proofs.laws.fields_ascend.Goals as goal
 

@@ -2,7 +2,7 @@ use Rattle.std.proofs.Common.{sym, ap, ◌∙◌, Option}
 use Rattle.std.specs.Prelude.{ok_or}
 use Rattle.cbor_profile.specs.Tree.{Tree, Trees}
 use Rattle.dots_keys.specs.Mitigations.{only_item, scope_of}
-use Rattle.dots_heads.specs.Results.{◌>>=◌, invalid}
+use Rattle.dots_keys.specs.Results.{◌>>=◌, invalid}
 use Rattle.dots_keys.proofs.Arrays.{not_only}
 use Rattle.dots_keys.proofs.mitigation.only_scope.Goals as goal
 

@@ -1,5 +1,5 @@
 use Rattle.std.proofs.Common.{◌≡◌, Bool, Ok, Err, subst}
-use Rattle.dots_heads.specs.Results.{Fails}
+use Rattle.dots_keys.specs.Results.{Fails}
 use Rattle.std.specs.Prelude.{is_some}
 use Rattle.std.proofs.lemmas.Result.{err_from_is_err_and}
 use Rattle.cbor_profile.specs.ItemTrees.{tree_of}

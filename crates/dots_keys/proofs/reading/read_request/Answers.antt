@@ -1,10 +1,10 @@
 use Rattle.std.proofs.lemmas.Result.{err_from_is_err_and, IfOk-weaker}
 use Rattle.dots_keys.specs.Askable.{IsAskable}
 use Rattle.dots_keys.specs.Lifetimes.{HasLifetime}
-use Rattle.dots_heads.specs.HeadValues.{head_value}
+use Rattle.dots_keys.specs.HeadValues.{head_value}
 use Rattle.dots_keys.proofs.Askable.{answered_askable, askable_lifetime}
 use Rattle.dots_keys.proofs.Waiting.{answered_waits}
-use Rattle.dots_heads.proofs.WithoutMemory.{no_refusal}
+use Rattle.dots_keys.proofs.WithoutMemory.{no_refusal}
 use Rattle.dots_keys.proofs.reading.read_request.Goals as goal
 
 pub returns-in_err-head-clause-memory : goal.returns-in_err-head-clause-memory

@@ -1,7 +1,7 @@
 use Rattle.std.proofs.Common.{sym, ap, ◌∙◌}
 use Rattle.dots_history.specs.Histories.{alone}
 use Rattle.dots_history.specs.Rows.{plain_rows}
-use Rattle.dots_laws.proofs.Isolating.{plain_rows_alone}
+use Rattle.dots_history.proofs.Isolating.{plain_rows_alone}
 use Rattle.dots_machine.proofs.Apart.{step_apart}
 use Rattle.dots_machine.proofs.law.domains_stay_apart.Goals as goal
 

@@ -1,7 +1,7 @@
 use Rattle.std.proofs.Common.{ℕ, ◌≤◌, List, length, sym, ap, ◌∙◌, subst}
 use Rattle.std.specs.Prelude.{option_to_list}
 use Rattle.dots_history.specs.Slots.{Slots}
-use Rattle.dots_laws.specs.KeptPlaces.{union}
+use Rattle.dots_history.specs.KeptPlaces.{union}
 use Rattle.coap_exchange.specs.Rings.{all_slots}
 use Rattle.live_mitigations.specs.Numbers.{all_numbers}
 use Rattle.held_resources.specs.Rows.{slots_in}

@@ -7,7 +7,7 @@ use Rattle.held_resources.specs.Tables as things
 use Rattle.installed_filters.specs.Filters.{SameRoom}
 use Rattle.installed_filters.specs.HistoryRows.{Represents}
 use Rattle.installed_filters.proofs.HistoryRows.{Between}
-use Rattle.dots_laws.specs.Filed.{Filed}
+use Rattle.dots_history.specs.Filed.{Filed}
 use Rattle.coap_observe.specs.DueAmong.{includes}
 use Rattle.dots_registry.proofs.expiring.expire_all.Given as goal
 

@@ -1,10 +1,10 @@
 use Rattle.std.proofs.Common.{◌∙◌, inl, List, [], length, filter, sym, ap, subst}
 use Rattle.dots_host.specs.Acts.{wire_acts}
 use Rattle.dots_host.specs.Memory.{told}
-use Rattle.dots_disk.specs.Media.{byte_of}
-use Rattle.dots_disk.specs.HostedLaws.{hands_out_then, disk_leads}
-use Rattle.dots_disk.specs.StoredLaws.{keeps_acts}
-use Rattle.filter_rows.specs.declared.rows.ScrubRow.{ScrubRow}
+use Rattle.dots_host.specs.Media.{byte_of}
+use Rattle.dots_host.specs.HostedLaws.{hands_out_then, disk_leads}
+use Rattle.dots_host.specs.StoredLaws.{keeps_acts}
+use Rattle.acl_lists.specs.declared.rows.ScrubRow.{ScrubRow}
 use Rattle.filter_table.specs.TableRows.{is_active}
 use Rattle.dots_history.specs.Rows.{plain_rows}
 use Rattle.dots_registry.specs.RegistryValues as registry

@@ -1,13 +1,13 @@
 use Rattle.std.specs.List.{list_all}
 use Rattle.std.proofs.Common.{◌≡◌, true, refl, sym, subst}
-use Rattle.dots_disk.specs.Becoming.{RestsWith}
+use Rattle.dots_host.specs.Becoming.{RestsWith}
 use Rattle.slot_journal.specs.DiskEntries as journal
 use Rattle.dots_machine.specs.Machine.{begun_from}
 use Rattle.dots_machine.specs.Outside.{Outside}
-use Rattle.dots_laws.specs.Calm.{is_own}
-use Rattle.dots_server.specs.ServerValues.{IsKept}
-use Rattle.dots_run.specs.Refusals.{Counts, Wrote}
-use Rattle.dots_run.proofs.Serving.{begun_zero, followed_by, sees_of, serves_to}
+use Rattle.dots_history.specs.Calm.{is_own}
+use Rattle.dots_server.specs.ServerValues.{ServerValue, IsKept}
+use Rattle.dots_run.specs.Refusals.{Counts, Wrote, FailsOnly}
+use Rattle.dots_run.proofs.Serving.{begun_zero, followed_by, sees_of, serves_to, unrecovered_counts}
 use Rattle.dots_run.proofs.outcome.host_events.Goals as goal
 
 pub returns-in-Ok-clause-machine : goal.returns-in-Ok-clause-machine
@@ -60,6 +60,7 @@ returns-in-Ok-clause-machine g c = λ left left_now faults faults_now.
     (RestsWith (g.H.Disk.media mid) (journal.Represents c.in-Ok.server.journal c.args.settings stored))
     (λ seen rests. (disk seen (sees_of (g.H.Disk.media old) seen rests)).1)
     c.serve.result
+    c.serve.ensures.sized
     (λ told.
     let (how, end, came, wrote) = c.serve.ensures.came c.args.settings (begun_from c.args.settings stored) stored
     (subst (λ state. IsKept c.in-Ok.server c.args.settings state stored) (begun_zero c.args.settings stored) kept)
@@ -71,3 +72,9 @@ returns-in-Ok-clause-machine g c = λ left left_now faults faults_now.
       subst (λ s. list_all (is_own s) state.history ≡ true) c.in-Ok.ensures.settings own,
       subst (λ s. Wrote c.serve.result how s state before after) c.in-Ok.ensures.settings (wrote before after counted counts),
     ))
+
+pub returns-in-Ok-clause-counts : goal.returns-in-Ok-clause-counts
+returns-in-Ok-clause-counts g c = subst (λ count. FailsOnly c.serve.result count (g.H.Disk.faults c.serve.new.host)) c.in-Ok.ensures.cause c.serve.ensures.counts
+
+pub returns-in-Err-clause-counts : goal.returns-in-Err-clause-counts
+returns-in-Err-clause-counts g c = unrecovered_counts ServerValue c.in-Err.fault (g.H.Disk.faults c.args.host.now) (g.H.Disk.faults c.begin.new.host) c.in-Err.ensures.cause

@@ -1,5 +1,5 @@
 use Rattle.std.proofs.Common.{◌∙◌}
-use Rattle.dots_run.proofs.Completeness.{ends_refused, ends_well, ends_printed, ends_unreadable, wrong_words, no_command, has_read, has_written, has_failed, has_source_read, not_served}
+use Rattle.dots_run.proofs.Completeness.{ends_refused, ends_well, ends_printed, ends_unreadable, wrong_words, no_command, has_read, has_written, has_failed, only_six, is_too_small, has_source_read, not_served}
 use Rattle.dots_run.proofs.outcome.run_machine.Goals as goal
 
 pub returns-clause-words : goal.returns-clause-words
@@ -26,6 +26,12 @@ returns-clause-complete g c = λ served ready read came kept written.
 
 pub returns-clause-disk : goal.returns-clause-disk
 returns-clause-disk g c = λ is. has_failed _ _ _ c.ending_of.result (rw c.status.ensures at is) c.ending_of.ensures.machine
+
+pub returns-clause-unfailed : goal.returns-clause-unfailed
+returns-clause-unfailed g c = λ six. only_six c.ending_of.result _ _ (λ is. six (c.status.ensures ∙ is)) c.ending_of.ensures.counts
+
+pub returns-clause-small : goal.returns-clause-small
+returns-clause-small g c = λ ten. is_too_small _ _ _ c.ending_of.result (rw c.status.ensures at ten) c.ending_of.ensures.machine
 
 pub returns-clause-readable : goal.returns-clause-readable
 returns-clause-readable g c = λ show readable written. rw c.status.ensures (ends_printed _ _ _ c.ending_of.result show readable written c.ending_of.ensures.machine)

@@ -31,6 +31,9 @@ returns-in-Ok-write_report-clause-any g c =
       λ before now counted counts. wrote_all settings any.0 _ _ _ _ _ _ _ _ before now counted counts (c.in-Ok-write_report.ensures.ok settings any.0 stands),
     )
 
+pub returns-in-Ok-write_report-clause-counts : goal.returns-in-Ok-write_report-clause-counts
+returns-in-Ok-write_report-clause-counts g c = rw c.in-Ok.is at c.take_events.ensures.counts
+
 -- ---- and the report couldn't be written
 
 pub returns-in-Err-write_report-clause-came : goal.returns-in-Err-write_report-clause-came
@@ -55,6 +58,9 @@ returns-in-Err-write_report-clause-any g c =
           wrote_some settings any.0 _ _ _ _ _ _ _ _ before now counted counts (c.in-Err-write_report.ensures.err settings any.0 stands) c.in-Err-write_report.ensures.cause.rose,
     )
 
+pub returns-in-Err-write_report-clause-counts : goal.returns-in-Err-write_report-clause-counts
+returns-in-Err-write_report-clause-counts g c = rw c.in-Ok.is at c.take_events.ensures.counts
+
 -- ---- the events stopped otherwise
 
 pub returns-in-Err-clause-came : goal.returns-in-Err-clause-came
@@ -73,3 +79,6 @@ returns-in-Err-clause-any g c = (
   refl,
   λ before now counted counts. wrote_stop c.args.server.settings nothing _ _ _ _ _ _ _ _ before now counted counts c.in-Err.how c.in-Err.ensures.stopped c.write_stop.ensures,
 )
+
+pub returns-in-Err-clause-counts : goal.returns-in-Err-clause-counts
+returns-in-Err-clause-counts g c = rw c.in-Err.is at c.take_events.ensures.counts

@@ -1,6 +1,6 @@
 use Rattle.std.proofs.Common.{Ok, Err, refl, sym, subst}
-use Rattle.file_checks.specs.declared.checked.Checked.TheVariants as checked
-use Rattle.file_checks.specs.declared.checked.Unchecked.TheVariants as unchecked
+use Rattle.dots_script.specs.declared.checked.Checked.TheVariants as checked
+use Rattle.dots_script.specs.declared.checked.Unchecked.TheVariants as unchecked
 use Rattle.dots_run.specs.Load.{LoadReported}
 use Rattle.dots_run.proofs.reporting.report_load.Goals as goal
 

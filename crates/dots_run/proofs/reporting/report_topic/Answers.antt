@@ -1,7 +1,7 @@
 use Rattle.std.proofs.Common.{Ok, sym, ap, subst}
 use Rattle.dots_host.specs.Causes.{Rose}
-use Rattle.file_checks.specs.declared.checked.Checked.TheVariants as checked
-use Rattle.file_checks.specs.Checks.{ChecksSettings, ChecksScript}
+use Rattle.dots_script.specs.declared.checked.Checked.TheVariants as checked
+use Rattle.dots_script.specs.Checks.{ChecksSettings, ChecksScript}
 use Rattle.dots_run.specs.Reporting.{Finds}
 use Rattle.dots_run.proofs.Endings.{checks, ends_well, ends_at_fault}
 use Rattle.dots_run.proofs.reporting.report_topic.Goals as goal

@@ -1,7 +1,7 @@
-use Rattle.std.proofs.Common.{◌∙◌, map, string_bytes, inl, sym, subst}
+use Rattle.std.proofs.Common.{◌∙◌, map, string_bytes, inl, refl, sym, subst}
 use Rattle.dots_host.specs.Causes.{Rose}
 use Rattle.dots_run.specs.Reporting.{ReportsTopic, IsSound, IsAtFault}
-use Rattle.dots_run.proofs.Asking.{never_served, no_show, no_source, one_topic, topic_is_known, known_without, no_topic, never_two, status_unread, status_unwritten, status_sound, status_at_fault, status_source_read}
+use Rattle.dots_run.proofs.Asking.{never_served, no_show, no_source, one_topic, topic_is_known, known_without, no_topic, never_two, never_ten, status_unread, status_unwritten, status_sound, status_at_fault, status_source_read}
 use Rattle.dots_run.proofs.running.run.Goals as goal
 
 -- ---- what is told without serving
@@ -30,6 +30,12 @@ returns-in-Some-clause-heard g c = λ four five. status_source_read c.report_top
 
 pub returns-in-Some-clause-written : goal.returns-in-Some-clause-written
 returns-in-Some-clause-written g c = λ nine. c.report_topic.ensures.written (status_unwritten c.report_topic.result (sym c.status.ensures ∙ nine))
+
+pub returns-in-Some-clause-unfailed : goal.returns-in-Some-clause-unfailed
+returns-in-Some-clause-unfailed g c = λ six. refl
+
+pub returns-in-Some-clause-small : goal.returns-in-Some-clause-small
+returns-in-Some-clause-small g c = λ ten. absurd (never_ten c.report_topic.result (sym c.status.ensures ∙ ten))
 
 pub returns-in-Some-clause-unread : goal.returns-in-Some-clause-unread
 returns-in-Some-clause-unread g c = λ served check script. c.report_topic.ensures.unread (no_source (map string_bytes c.args.words.now) c.in-Some.topic (sym c.in-Some.ensures) check script)

@@ -1,6 +1,6 @@
 use Rattle.std.proofs.Common.{◌≡◌, ◌∙◌, map, string_bytes, refl, ap, subst}
 use Rattle.dots_host.specs.Acts.{wire_acts}
-use Rattle.dots_disk.specs.Logged.{acts_told}
+use Rattle.dots_host.specs.Logged.{acts_told}
 use Rattle.dots_machine.specs.Outside.{Outside}
 use Rattle.dots_script.specs.Accounts.{Outer, outer}
 use Rattle.dots_script.specs.Scripting.{Scripting}

@@ -4,7 +4,7 @@ use Rattle.dots_settings.specs.declared.peer.Role.TheVariants as role
 use Rattle.dots_settings.specs.Lookups.{no_domain}
 use Rattle.dots_machine.specs.Domains.{config_domain}
 use Rattle.held_resources.specs.Tables.{config_now}
-use Rattle.dots_server.proofs.Sessions.{configured_by_role}
+use Rattle.dots_server.proofs.HearingPeers.{configured_by_role}
 use Rattle.dots_server.proofs.beating.configured_by.Goals as goal
 
 pub returns-in-Client : goal.returns-in-Client

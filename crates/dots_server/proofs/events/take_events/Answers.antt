@@ -1,5 +1,5 @@
 use Rattle.std.proofs.Common.{◌≡◌, ◌≤◌, ◌∙◌, ◌+◌, inl, inr, [], refl, sym, subst, arith}
-use Rattle.dots_disk.specs.Becoming.{RestsWith}
+use Rattle.dots_host.specs.Becoming.{RestsWith}
 use Rattle.dots_host.specs.declared.event.Event.TheVariants as event
 use Rattle.dots_host.specs.Acts.{took, event_of}
 use Rattle.dots_host.specs.Causes.{Rose}
@@ -12,7 +12,7 @@ use Rattle.dots_machine.specs.Machine.{restarted}
 use Rattle.dots_server.specs.ServerValues.{ServerValue}
 use Rattle.dots_server.proofs.Turning.{none_added}
 use Rattle.dots_server.proofs.Turns.{LivesOn, lives_first, lives_then, rests_came, comes_to_end, comes_to_failure, comes_unrecovered, ran_out, no_end}
-use Rattle.dots_server.proofs.Taking.{restart_took, restart_broke, recover_stops, stops_more, rose_since}
+use Rattle.dots_server.proofs.Taking.{restart_took, restart_broke, recover_stops, recover_counts, stops_more, rose_since}
 use Rattle.dots_server.proofs.Following.{added_any, restarted_on, restarted_now, taken_on, added_on, either_on, followed}
 use Rattle.dots_server.proofs.events.take_events.Goals.{in-Restart+in-Ok, in_default+in-Ok-handle}
 use Rattle.dots_server.proofs.events.take_events.Goals as goal
@@ -136,6 +136,9 @@ returns-in-End-clause-adds g c =
     taken_on (g.H.Wire.acts c.args.host.now) (g.H.Wire.acts c.loop-turn.host) (g.H.Wire.acts c.next-got.new.self) (g.H.Wire.moment c.loop-turn.host) (g.H.Wire.moment c.next-got.new.self)
     (took (event_of c.next-got.result.what c.next-got.new.into) c.next-got.result.at) c.loop-turn.invariant.adds c.next-got.ensures.acts
 
+pub returns-in-End-clause-counts : goal.returns-in-End-clause-counts
+returns-in-End-clause-counts g c = (g.met.H.Host.wire_keeps c.loop-turn.host c.next-got.new.self c.next-got.ensures.beside).2 ∙ c.loop-turn.invariant.disk
+
 pub returns-in-Failed-clause-came : goal.returns-in-Failed-clause-came
 returns-in-Failed-clause-came g c = λ settings start stored kept follows.
     let inv = c.loop-turn.invariant in
@@ -164,6 +167,9 @@ pub returns-in-Failed-clause-adds : goal.returns-in-Failed-clause-adds
 returns-in-Failed-clause-adds g c =
     taken_on (g.H.Wire.acts c.args.host.now) (g.H.Wire.acts c.loop-turn.host) (g.H.Wire.acts c.next-got.new.self) (g.H.Wire.moment c.loop-turn.host) (g.H.Wire.moment c.next-got.new.self)
     (took (event_of c.next-got.result.what c.next-got.new.into) c.next-got.result.at) c.loop-turn.invariant.adds c.next-got.ensures.acts
+
+pub returns-in-Failed-clause-counts : goal.returns-in-Failed-clause-counts
+returns-in-Failed-clause-counts g c = (g.met.H.Host.wire_keeps c.loop-turn.host c.next-got.new.self c.next-got.ensures.beside).2 ∙ c.loop-turn.invariant.disk
 
 -- ---- at a restart the disk wasn't recovered
 
@@ -228,6 +234,17 @@ returns-in-Err-clause-stopped g c =
     (rose_since (g.H.Disk.faults first) (g.H.Disk.faults came) (g.H.Disk.faults left) (omega (arith, disk, disk_on)))
     (recover_stops ServerValue c.in-Err.fault (Rose (g.H.Wire.faults came) (g.H.Wire.faults left)) (g.H.Disk.faults came) (g.H.Disk.faults left) c.in-Err.ensures.cause)
 
+pub returns-in-Err-clause-counts : goal.returns-in-Err-clause-counts
+returns-in-Err-clause-counts g c =
+    let came = c.next-got.new.self in
+    recover_counts ServerValue c.in-Err.fault (g.H.Disk.faults c.args.host.now) (g.H.Disk.faults came) (g.H.Disk.faults c.restart.new.host)
+    ((g.met.H.Host.wire_keeps c.loop-turn.host came c.next-got.ensures.beside).2 ∙ c.loop-turn.invariant.disk) c.in-Err.ensures.cause
+
+pub returns-in-Err-clause-sized : goal.returns-in-Err-clause-sized
+returns-in-Err-clause-sized g c =
+    let keeps = g.met.H.Host.wire_keeps c.loop-turn.host c.next-got.new.self c.next-got.ensures.beside in
+    c.in-Err.ensures.sized (subst (λ extent. needed_of c.loop-turn.server.journal.slots ≤ extent) (sym keeps.1) c.loop-turn.invariant.size)
+
 pub returns-in-Err-clause-leads : goal.returns-in-Err-clause-leads
 returns-in-Err-clause-leads g c =
     g.met.H.Wire.leads_then _ _ _ (g.met.H.Wire.leads_then _ _ _ c.loop-turn.invariant.leads c.next-got.ensures.leads) (g.met.H.Host.disk_keeps c.next-got.new.self c.restart.new.host c.restart.ensures.beside).2
@@ -272,6 +289,8 @@ returns-in-Err-handle g c =
       settings = tt;
       stopped = let disk = inv.disk in let disk_on = keeps.2 in
           rose_since (g.H.Disk.faults c.args.host.now) (g.H.Disk.faults came) (g.H.Disk.faults left) (omega (arith, disk, disk_on)) c.in-Err-handle.ensures.cause.rose;
+      counts = tt;
+      sized = tt;
       leads = g.met.H.Wire.leads_then _ _ _ (g.met.H.Wire.leads_then _ _ _ inv.leads c.next-got.ensures.leads) c.handle.ensures.leads;
       later = omega (arith, c.next-got.ensures.later, c.handle.ensures.wire, inv.later);
     }
@@ -297,3 +316,6 @@ returns-clause-came g c = λ settings start stored kept follows.
       },
       tt,
     )
+
+pub returns-clause-counts : goal.returns-clause-counts
+returns-clause-counts g c = c.loop-turn.invariant.disk

@@ -1,5 +1,5 @@
 use Rattle.std.proofs.Common.{◌≡◌, ◌≤◌, ◌⊎◌, List}
-use Rattle.dots_disk.specs.Becoming.{RestsWith}
+use Rattle.dots_host.specs.Becoming.{RestsWith}
 use Rattle.dots_host.specs.Runs.{Added}
 use Rattle.dots_settings.specs.Settings.{SettingsValue}
 use Rattle.dots_history.specs.declared.entry.Entry.{Entry}

@@ -2,7 +2,7 @@ use Rattle.std.proofs.Common.{◌≡◌, ℕ, List, [], ◌∷◌, ◌++◌, len
 use Rattle.std.proofs.Math.Seq.{take-append_seam}
 use Rattle.dots_host.specs.declared.out.OwnedOut.TheVariants as owned
 use Rattle.dots_host.specs.Runs.{Added}
-use Rattle.dots_notices.specs.Notifying.{SentTo}
+use Rattle.session_core.specs.Notifying.{SentTo}
 use Rattle.dots_server.proofs.pieces.send_reply.Goals as goal
 
 front_is : (len : ℕ) (reply rest now : List ℕ) → len ≡ length reply → now ≡ reply ++ rest → take len now ≡ reply

@@ -1,5 +1,5 @@
 use Rattle.std.proofs.Common.{◌+◌, map, ap, add-one, arith}
-use Rattle.filter_rows.specs.Fates.{fate_by_rows}
+use Rattle.acl_lists.specs.Fates.{fate_by_rows}
 use Rattle.filter_table.specs.TableRows.{row_of_scrub, row_of_acl}
 use Rattle.dots_settings.specs.Lookups.{prefixes_of}
 use Rattle.dots_server.proofs.ReportTexts.{puts_packet}

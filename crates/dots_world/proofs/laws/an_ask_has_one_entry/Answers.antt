@@ -3,7 +3,7 @@ use Rattle.dots_machine.specs.Machine.{begun_from, Step}
 use Rattle.dots_world.specs.Once.{Finds}
 use Rattle.dots_world.proofs.Machine.{history_of, machine_serves}
 use Rattle.dots_world.proofs.Once.{one_entry}
-use Rattle.dots_world.proofs.Repeats.{found_keeps}
+use Rattle.dots_world.proofs.FoundEntries.{found_keeps}
 use Rattle.dots_world.proofs.laws.an_ask_has_one_entry.Goals as goal
 
 pub returns : goal.returns

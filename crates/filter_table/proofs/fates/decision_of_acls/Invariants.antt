@@ -1,6 +1,6 @@
 -- what the lists of the rest say, those of all say
 use Rattle.std.proofs.Common.{◌≡◌, map, drop}
-use Rattle.filter_rows.specs.Fates.{decision_of_rows}
+use Rattle.acl_lists.specs.Fates.{decision_of_rows}
 use Rattle.filter_table.specs.TableRows.{row_of_acl}
 use Rattle.dots_settings.specs.Lookups.{prefixes_of}
 use Rattle.filter_table.proofs.fates.decision_of_acls.Given as goal

@@ -1,7 +1,7 @@
 -- the first of the rest is the first of all
 use Rattle.std.proofs.Common.{◌≡◌, drop}
 use Rattle.std.specs.List.{find}
-use Rattle.prefix_ranks.specs.declared.rank.Rank.{Rank}
+use Rattle.filter_table.specs.declared.rank.Rank.{Rank}
 use Rattle.filter_table.specs.Rows.{slot_is_of}
 use Rattle.filter_table.proofs.marks.first_of.Given as goal
 

@@ -1,6 +1,6 @@
 use Rattle.std.proofs.Common.{nat_le, rules}
 use Rattle.std.proofs.lemmas.List.Sorted.{IsPartitionPoint-from_clause}
-use Rattle.prefix_ranks.proofs.Searching.{searched, falls_partitioned}
+use Rattle.filter_table.proofs.Searching.{searched, falls_partitioned}
 use Rattle.filter_table.specs.declared.turn.Turn.{Turn}
 use Rattle.filter_table.specs.Rows.{place_of_turn}
 use Rattle.filter_table.proofs.Orders.{order_falls}

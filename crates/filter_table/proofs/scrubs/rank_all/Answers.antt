@@ -1,6 +1,6 @@
 use Rattle.std.proofs.Common.{arith, ◌≡◌, length, map, take, ap, sym, ◌∙◌, add-one, ℕ}
-use Rattle.prefix_ranks.specs.declared.rank.Rank.{Rank}
-use Rattle.prefix_ranks.specs.Ranks.{RankingValue, ranked, with_rank}
+use Rattle.filter_table.specs.declared.rank.Rank.{Rank}
+use Rattle.filter_table.specs.Ranks.{RankingValue, ranked, with_rank}
 use Rattle.filter_table.specs.TableRows.{rank_of}
 use Rattle.filter_table.specs.Rows.{gathered, mark_of}
 use Rattle.filter_table.proofs.RowsInSlots.{ranking_value, taken_number, ranked_next}

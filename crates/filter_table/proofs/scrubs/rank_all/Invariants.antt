@@ -1,6 +1,6 @@
 -- the rows of the turns before the one at hand are ranked
 use Rattle.std.proofs.Common.{◌≡◌, map, take}
-use Rattle.prefix_ranks.specs.Ranks.{ranked}
+use Rattle.filter_table.specs.Ranks.{ranked}
 use Rattle.filter_table.specs.TableRows.{rank_of}
 use Rattle.filter_table.specs.Rows.{gathered, mark_of}
 use Rattle.filter_table.proofs.RowsInSlots.{ranking_value}

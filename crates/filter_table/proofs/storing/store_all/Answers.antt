@@ -1,7 +1,7 @@
 use Rattle.std.proofs.Common.{arith, ◌≡◌, ◌+◌, ◌<◌, ◌≤◌, ℕ, length, ap, ◌∙◌}
 use Rattle.std.specs.Vec.Iter.{into_iter_items}
 use Rattle.std.proofs.lemmas.Grind.{common_steps}
-use Rattle.prefix_ranks.proofs.Each.{none_there}
+use Rattle.filter_table.proofs.Each.{none_there}
 use Rattle.filter_table.specs.TableRows.{rank_of}
 use Rattle.filter_table.specs.Rows.{mark_of}
 use Rattle.filter_table.proofs.Stored.{still_stored, store_next, store_end, stored_free, stored_rows, stored_ranks, stored_marks}

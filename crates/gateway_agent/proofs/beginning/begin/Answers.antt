@@ -1,8 +1,8 @@
 use Rattle.std.proofs.Common.{inr}
 use Rattle.std.proofs.lemmas.Result.{err_from_is_err_and}
 use Rattle.slot_store.proofs.DiskReading.{sees_at_rest}
-use Rattle.gateway_store.specs.Forms.{entries_of}
-use Rattle.gateway_agent.proofs.Opening.{begun_in}
+use Rattle.gateway_agent.specs.Forms.{entries_of}
+use Rattle.gateway_agent.proofs.OpeningLemmas.{begun_in}
 use Rattle.gateway_agent.proofs.beginning.begin.Goals as goal
 
 pub returns-in_err-store : goal.returns-in_err-store

@@ -2,9 +2,9 @@ use Rattle.std.proofs.Common.{ℕ, sym, ap, subst, ◌∙◌, arith}
 use Rattle.dots_gateway.specs.Exchanges.{AreRestorable, restored}
 use Rattle.dots_gateway.specs.Gateway.{GatewayValue, gateway_at}
 use Rattle.dots_gateway.specs.Routes.{routes_of}
-use Rattle.gateway_store.specs.Exchanges.{most_young}
+use Rattle.gateway_agent.specs.Exchanges.{most_young}
 use Rattle.gateway_agent.specs.Passing.{begun}
-use Rattle.gateway_agent.proofs.Opening.{core_is}
+use Rattle.gateway_agent.proofs.OpeningLemmas.{core_is}
 use Rattle.gateway_agent.proofs.beginning.core_with.Goals as goal
 
 pub restore-requires-clause-fresh : goal.restore-requires-clause-fresh

@@ -2,11 +2,11 @@ use Rattle.std.proofs.Common.{ℕ, sym, subst, ◌∙◌}
 use Rattle.slot_store.proofs.DiskReading.{sees_at_rest}
 use Rattle.slot_store.proofs.OpenLemmas.{if_ok_as, if_err_as}
 use Rattle.slot_store.proofs.Steps.{seen_at_rest}
-use Rattle.gateway_store.specs.Exchanges.{IsStore, most_young}
-use Rattle.gateway_store.specs.Forms.{entries_of}
-use Rattle.gateway_store.specs.Stores.{IsOn}
+use Rattle.gateway_agent.specs.Exchanges.{IsStore, most_young}
+use Rattle.gateway_agent.specs.Forms.{entries_of}
+use Rattle.gateway_agent.specs.Stores.{IsOn}
 use Rattle.gateway_agent.specs.Keeping.{agent}
-use Rattle.gateway_agent.proofs.Opening.{found_again, ok_both, restarted_in}
+use Rattle.gateway_agent.proofs.OpeningLemmas.{found_again, ok_both, restarted_in}
 use Rattle.slot_journal.proofs.Crashing.{represents_has}
 use Rattle.gateway_agent.proofs.beginning.restart.Goals as goal
 

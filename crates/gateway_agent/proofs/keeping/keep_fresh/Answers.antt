@@ -1,8 +1,8 @@
 use Rattle.std.proofs.Common.{List, refl, sym, subst, arith}
-use Rattle.dots_disk.specs.Becoming.{Leaves}
+use Rattle.dots_host.specs.Becoming.{Leaves}
 use Rattle.slot_store.proofs.Steps.{begins}
 use Rattle.dots_gateway.specs.declared.exchange.Exchange.{Exchange}
-use Rattle.gateway_store.specs.Exchanges.{most_young}
+use Rattle.gateway_agent.specs.Exchanges.{most_young}
 use Rattle.gateway_agent.specs.Keeping.{CanKeepAll, HasMore, IsMore}
 use Rattle.gateway_agent.proofs.Storing.{one_kept, ok_three}
 use Rattle.gateway_agent.proofs.keeping.keep_fresh.Goals as goal

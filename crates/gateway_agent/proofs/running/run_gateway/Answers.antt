@@ -1,7 +1,7 @@
 use Rattle.std.proofs.Common.{inl}
 use Rattle.std.specs.Prelude.{Ok, Err}
 use Rattle.dots_gateway.specs.Gateway.{GatewayValue}
-use Rattle.gateway_store.specs.Stores.{StoreValue}
+use Rattle.gateway_agent.specs.Stores.{StoreValue}
 use Rattle.gateway_agent.specs.Passing.{opened}
 use Rattle.gateway_agent.specs.Keeping.{agent}
 use Rattle.gateway_agent.proofs.Ending.{completes_by, has_run}

@@ -1,6 +1,6 @@
 use Rattle.std.proofs.Common.{◌≡◌, ◌≤◌, ◌∙◌, ◌+◌, ℕ, inl, inr, [], ◌∷◌, ◌++◌, length, append-nil, refl, sym, ap, subst, arith}
 use Rattle.std.specs.Prelude.{Ok, Err}
-use Rattle.dots_disk.specs.Becoming.{Leaves, RestsWith}
+use Rattle.dots_host.specs.Becoming.{Leaves, RestsWith}
 use Rattle.slot_store.proofs.Steps.{begins}
 use Rattle.dots_host.specs.declared.event.Event.TheVariants as event
 use Rattle.dots_host.specs.Acts.{IsWithin, took, event_of}
@@ -9,15 +9,15 @@ use Rattle.dots_host.specs.Runs.{resting}
 use Rattle.dots_host.proofs.RunLemmas.{added_none, added_by}
 use Rattle.slot_store.specs.Layout.{needed_of}
 use Rattle.slot_journal.specs.Sizes.{slots_of}
-use Rattle.gateway_store.specs.Exchanges.{most_young}
-use Rattle.gateway_store.specs.Stores.{IsOn, StoreValue}
+use Rattle.gateway_agent.specs.Exchanges.{most_young}
+use Rattle.gateway_agent.specs.Stores.{IsOn, StoreValue}
 use Rattle.dots_gateway.specs.Gateway.{GatewayValue}
 use Rattle.gateway_agent.specs.declared.stopping.GatewayHalt.TheVariants as halt
 use Rattle.gateway_agent.specs.Passing.{GatewayState, restarted}
 use Rattle.gateway_agent.specs.Keeping.{IsIn, agent}
 use Rattle.gateway_agent.specs.Turning.{HasTurn}
 use Rattle.gateway_agent.proofs.Following.{added_any, restarted_on, restarted_now, taken_on, added_on, either_on, followed}
-use Rattle.gateway_agent.proofs.Opening.{restart_writes}
+use Rattle.gateway_agent.proofs.OpeningLemmas.{restart_writes}
 use Rattle.gateway_agent.proofs.Restarting.{restart_took, unrecovered_stops, stops_more, rose_since, taken_of}
 use Rattle.gateway_agent.proofs.Runs.{LivesOn, go_on_then, lives_first, lives_then, rests_came, comes_unsent, grows_then, own_time, owing, ran_out, no_end}
 use Rattle.gateway_agent.proofs.Turning.{keeps_same, none_added}

@@ -1,10 +1,10 @@
 use Rattle.std.proofs.Common.{◌≡◌, ◌≤◌, ◌⊎◌}
-use Rattle.dots_disk.specs.Becoming.{RestsWith}
+use Rattle.dots_host.specs.Becoming.{RestsWith}
 use Rattle.dots_host.specs.Runs.{Added}
 use Rattle.slot_store.specs.Layout.{needed_of}
 use Rattle.slot_journal.specs.Sizes.{slots_of}
-use Rattle.gateway_store.specs.Exchanges.{most_young}
-use Rattle.gateway_store.specs.Stores.{IsOn}
+use Rattle.gateway_agent.specs.Exchanges.{most_young}
+use Rattle.gateway_agent.specs.Stores.{IsOn}
 use Rattle.gateway_agent.specs.Passing.{GatewayState}
 use Rattle.gateway_agent.specs.Keeping.{AreJoined, IsFor, IsIn, agent}
 use Rattle.gateway_agent.specs.Running.{AnyRestart}

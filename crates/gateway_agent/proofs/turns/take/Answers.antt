@@ -4,7 +4,7 @@ use Rattle.dots_host.specs.Acts.{event_of}
 use Rattle.dots_gateway.specs.Gateway.{GatewayValue}
 use Rattle.dots_host.proofs.RunLemmas.{added_none}
 use Rattle.slot_journal.proofs.Crashing.{on_ok_as}
-use Rattle.gateway_store.proofs.Keeping.{on_err_as}
+use Rattle.gateway_agent.proofs.KeepingLemmas.{on_err_as}
 use Rattle.gateway_agent.specs.Keeping.{AreJoined, agent}
 use Rattle.gateway_agent.specs.Turning.{Took, BrokeOff}
 use Rattle.gateway_agent.proofs.Joining.{joined_at}

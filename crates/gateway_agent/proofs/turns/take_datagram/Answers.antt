@@ -1,7 +1,7 @@
 use Rattle.std.proofs.Common.{sym, ap, ◌∙◌, arith}
 use Rattle.dots_gateway.specs.Gateway.{GatewayValue}
 use Rattle.slot_journal.proofs.Crashing.{on_ok_as}
-use Rattle.gateway_store.proofs.Keeping.{on_err_as}
+use Rattle.gateway_agent.proofs.KeepingLemmas.{on_err_as}
 use Rattle.gateway_agent.specs.Keeping.{agent}
 use Rattle.gateway_agent.proofs.Turning.{as_down, as_up, as_broke}
 use Rattle.gateway_agent.proofs.turns.take_datagram.Goals as goal

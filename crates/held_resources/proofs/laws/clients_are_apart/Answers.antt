@@ -1,4 +1,4 @@
-use Rattle.dots_laws.proofs.Written.{aliases_alone, acls_alone}
+use Rattle.dots_history.proofs.Written.{aliases_alone, acls_alone}
 use Rattle.held_resources.proofs.Lawful.{registered_alone, registered_still, aliases_still, acls_still}
 use Rattle.held_resources.proofs.laws.clients_are_apart.Goals as goal
 

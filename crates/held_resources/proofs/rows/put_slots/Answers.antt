@@ -1,7 +1,7 @@
 use Rattle.std.proofs.Common.{◌+◌, drop, length, ap, ◌∙◌, arith}
 use Rattle.dots_history.specs.Slots.{placed}
-use Rattle.dots_laws.specs.KeptPlaces.{union}
-use Rattle.dots_laws.proofs.Unions.{union_longer}
+use Rattle.dots_history.specs.KeptPlaces.{union}
+use Rattle.dots_history.proofs.Unions.{union_longer}
 use Rattle.held_resources.specs.Rows.{slots_in}
 use Rattle.held_resources.proofs.Slots.{put_row}
 use Rattle.held_resources.proofs.rows.put_slots.Goals as goal

@@ -1,6 +1,6 @@
 -- what is left, put to what is there, comes to all
 use Rattle.std.proofs.Common.{◌≡◌, drop}
-use Rattle.dots_laws.specs.KeptPlaces.{union}
+use Rattle.dots_history.specs.KeptPlaces.{union}
 use Rattle.held_resources.specs.Rows.{slots_in}
 use Rattle.held_resources.proofs.rows.put_slots.Given as goal
 

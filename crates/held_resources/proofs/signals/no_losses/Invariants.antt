@@ -1,6 +1,6 @@
 use Rattle.std.proofs.Common.{◌≡◌, map, take}
 use Rattle.std.specs.List.{flat_map}
-use Rattle.dots_laws.specs.Calm.{loser_of}
+use Rattle.dots_history.specs.Calm.{loser_of}
 use Rattle.held_resources.specs.Tables.{no_loss}
 use Rattle.held_resources.proofs.signals.no_losses.Given as goal
 

@@ -1,6 +1,6 @@
 use Rattle.std.proofs.Common.{◌≡◌, ◌++◌, drop, map}
 use Rattle.std.specs.List.{flat_map}
-use Rattle.host_file.specs.HostLine.{line_value}
+use Rattle.dots_edge.specs.HostLine.{line_value}
 use Rattle.host_checks.specs.Findings.{of_line}
 use Rattle.host_checks.proofs.findings.add_lines.Given as goal
 

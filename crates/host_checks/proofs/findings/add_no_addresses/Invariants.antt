@@ -1,6 +1,6 @@
 use Rattle.std.proofs.Common.{◌≡◌, ◌++◌, take, map}
 use Rattle.std.specs.List.{flat_map}
-use Rattle.host_file.specs.HostLine.{line_value}
+use Rattle.dots_edge.specs.HostLine.{line_value}
 use Rattle.host_checks.specs.Findings.{no_address}
 use Rattle.host_checks.proofs.findings.add_no_addresses.Given as goal
 

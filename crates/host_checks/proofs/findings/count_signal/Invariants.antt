@@ -1,5 +1,5 @@
 use Rattle.std.proofs.Common.{◌≡◌, ◌+◌, ◌≤◌, map, drop}
-use Rattle.host_file.specs.HostLine.{line_value, how_many}
+use Rattle.dots_edge.specs.HostLine.{line_value, how_many}
 use Rattle.host_checks.specs.Findings.{is_signal}
 use Rattle.host_checks.proofs.findings.count_signal.Given as goal
 

@@ -1,6 +1,6 @@
 use Rattle.std.proofs.Common.{◌≡◌, map, drop}
 use Rattle.std.specs.List.{list_any}
-use Rattle.host_file.specs.HostLine.{line_value}
+use Rattle.dots_edge.specs.HostLine.{line_value}
 use Rattle.host_checks.specs.Findings.{is_signal}
 use Rattle.host_checks.proofs.findings.has_signal.Given as goal
 

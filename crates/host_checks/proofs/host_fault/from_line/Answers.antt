@@ -1,6 +1,6 @@
 use Rattle.std.proofs.Common.{◌∙◌, ◌-◌, sym, arith}
-use Rattle.plain_text.specs.Lines.{lines_of}
-use Rattle.file_checks.proofs.Counting.{drop_next, drop_beyond}
+use Rattle.dots_lists.specs.Lines.{lines_of}
+use Rattle.dots_script.proofs.Counting.{drop_next, drop_beyond}
 use Rattle.host_checks.proofs.host_fault.from_line.Goals as goal
 
 pub loop-turn-preserved : goal.loop-turn-preserved

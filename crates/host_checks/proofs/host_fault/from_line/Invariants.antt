@@ -1,5 +1,5 @@
 use Rattle.std.proofs.Common.{◌≡◌, drop}
-use Rattle.plain_text.specs.Lines.{lines_of}
+use Rattle.dots_lists.specs.Lines.{lines_of}
 use Rattle.host_checks.proofs.host_fault.from_line.Given as goal
 
 abbrev pub invariant-loop-turn : goal.invariant-loop-turn

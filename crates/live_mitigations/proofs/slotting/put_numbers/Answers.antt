@@ -1,8 +1,8 @@
 use Rattle.std.proofs.Common.{◌∷◌, [], length, ap, arith}
 use Rattle.std.specs.Prelude.{option_to_list}
 use Rattle.dots_history.specs.Slots.{placed}
-use Rattle.dots_laws.specs.KeptPlaces.{union}
-use Rattle.dots_laws.proofs.Unions.{union_longer}
+use Rattle.dots_history.specs.KeptPlaces.{union}
+use Rattle.dots_history.proofs.Unions.{union_longer}
 use Rattle.live_mitigations.proofs.slotting.put_numbers.Goals as goal
 
 pub put-requires : goal.put-requires

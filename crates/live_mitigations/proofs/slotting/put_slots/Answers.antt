@@ -1,6 +1,6 @@
 use Rattle.std.proofs.Common.{◌+◌, drop, length, get_or, None, ap, ◌∙◌, arith}
-use Rattle.dots_laws.specs.KeptPlaces.{union}
-use Rattle.dots_laws.proofs.Unions.{union_longer}
+use Rattle.dots_history.specs.KeptPlaces.{union}
+use Rattle.dots_history.proofs.Unions.{union_longer}
 use Rattle.live_mitigations.specs.declared.slots.MitigationSlots.{MitigationSlots}
 use Rattle.live_mitigations.specs.Numbers.{numbers_of, numbers_in}
 use Rattle.live_mitigations.proofs.Unions.{get_twice, put_one}

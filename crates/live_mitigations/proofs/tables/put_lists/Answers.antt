@@ -1,6 +1,6 @@
 use Rattle.std.proofs.Common.{◌+◌, drop, length, ap, ◌∙◌, arith}
-use Rattle.dots_laws.specs.KeptPlaces.{union}
-use Rattle.dots_laws.proofs.Unions.{union_longer}
+use Rattle.dots_history.specs.KeptPlaces.{union}
+use Rattle.dots_history.proofs.Unions.{union_longer}
 use Rattle.live_mitigations.specs.Numbers.{numbers_in, all_numbers}
 use Rattle.live_mitigations.proofs.Unions.{put_list}
 use Rattle.live_mitigations.proofs.tables.put_lists.Goals as goal

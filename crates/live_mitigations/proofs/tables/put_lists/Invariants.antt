@@ -1,6 +1,6 @@
 -- what is left, put to what is there, comes to all
 use Rattle.std.proofs.Common.{◌≡◌, drop}
-use Rattle.dots_laws.specs.KeptPlaces.{union}
+use Rattle.dots_history.specs.KeptPlaces.{union}
 use Rattle.live_mitigations.specs.Numbers.{all_numbers}
 use Rattle.live_mitigations.proofs.tables.put_lists.Given as goal
 

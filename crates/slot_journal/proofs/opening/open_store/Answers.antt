@@ -1,4 +1,4 @@
-use Rattle.slot_journal.proofs.Recovering.{fault_refuses, fault_other, fault_caused}
+use Rattle.slot_journal.proofs.Recovering.{fault_refuses, fault_small, fault_other, fault_caused}
 use Rattle.slot_journal.proofs.opening.open_store.Goals as goal
 
 pub returns-in-Ok-clause-moments : goal.returns-in-Ok-clause-moments
@@ -17,6 +17,10 @@ pub returns-in-Err-clause-refused : goal.returns-in-Err-clause-refused
 returns-in-Err-clause-refused g c = λ seen sees.
     fault_refuses c.args.settings.now (g.D.Disk.extent c.args.disk.now) seen c.in-Err.fault c.fault_for.result (rw (c.digest-digest.ensures.value) at c.fault_for.ensures)
     (rw (c.slots.ensures.slots, c.digest-digest.ensures.value) at (c.in-Err.ensures.refused seen sees))
+
+pub returns-in-Err-clause-small : goal.returns-in-Err-clause-small
+returns-in-Err-clause-small g c =
+    fault_small c.args.settings.now (g.D.Disk.extent c.args.disk.now) c.digest-digest.result c.in-Err.fault c.fault_for.result c.fault_for.ensures (rw (c.slots.ensures.slots) at c.in-Err.ensures.small)
 
 pub returns-in-Err-clause-unwritten : goal.returns-in-Err-clause-unwritten
 returns-in-Err-clause-unwritten g c = λ seen other rests. c.in-Err.ensures.unwritten seen (fault_other c.in-Err.fault c.digest-digest.result c.fault_for.result c.fault_for.ensures other) rests

@@ -1,5 +1,5 @@
 use Rattle.std.proofs.Common.{refl}
-use Rattle.entry_records.proofs.Places.{whole_before}
+use Rattle.slot_journal.proofs.Places.{whole_before}
 use Rattle.slot_journal.proofs.reading.entry_in.Goals as goal
 
 pub returns-in-Ok-clause-entry : goal.returns-in-Ok-clause-entry

@@ -4,7 +4,7 @@ use Rattle.std.proofs.lemmas.Result.{err_from_is_err_and}
 use Rattle.std.specs.List.{AllByRecursion}
 use Rattle.slot_store.specs.Layout.{place_of, IsSlot}
 use Rattle.slot_store.proofs.DiskReading.{reads_then, sees_unchanged}
-use Rattle.entry_records.specs.Layout.{record_bytes}
+use Rattle.slot_journal.specs.Layout.{record_bytes}
 use Rattle.slot_journal.specs.DiskEntries.{HasRecord}
 use Rattle.slot_journal.specs.Refused.{HasFirst}
 use Rattle.slot_journal.proofs.Listed.{all_push}
@@ -22,6 +22,11 @@ returns-in_err-entry-clause-refused g c =
     bad_slot c.args.store.now.slots (c.args.store.now.selector % 2) c.args.store.now.used c.args.store.now.format seen c.loop-slot.entries c.place.result _ count under
     (c.place.ensures ∙ ap (λ slot. place_of c.args.store.now.slots (c.args.store.now.selector % 2) slot) (sym c.loop-slot.invariant.count)) (c.loop-slot.invariant.filled seen sees count) c.loop-slot.invariant.each
     (rw (c.format.ensures) at (c.in_err-entry.ensures.refused seen (sees_unchanged _ _ seen c.loop-slot.invariant.keeps sees))))
+
+pub returns-in_err-entry-clause-sized : goal.returns-in_err-entry-clause-sized
+returns-in_err-entry-clause-sized g c =
+    let p = err_from_is_err_and c.from_residual.result c.from_residual.ensures.1 in
+    rw (p.1, p.2) c.in_err-entry.ensures.sized
 
 pub returns-in_err-entry-clause-keeps : goal.returns-in_err-entry-clause-keeps
 returns-in_err-entry-clause-keeps g c = reads_then _ _ _ c.loop-slot.invariant.keeps c.in_err-entry.ensures.keeps

@@ -1,6 +1,6 @@
 use Rattle.std.proofs.Common.{◌≡◌, ℕ, ◌%◌, length}
 use Rattle.std.specs.List.{AllByRecursion}
-use Rattle.dots_disk.specs.Becoming.{KeepsMedia}
+use Rattle.dots_host.specs.Becoming.{KeepsMedia}
 use Rattle.slot_store.specs.Gates.{Sees}
 use Rattle.slot_store.specs.Refusing.{IsCount}
 use Rattle.slot_journal.specs.DiskEntries.{HasRecord}

@@ -2,7 +2,7 @@ use Rattle.std.proofs.Common.{◌≡◌, ◌+◌, ◌-◌, ℕ, refl, ap, arith,
 use Rattle.slot_store.specs.Gates.{Sees}
 use Rattle.slot_store.specs.Layout.{IsSlot}
 use Rattle.slot_store.proofs.OpenLemmas.{if_ok_as, if_err_as}
-use Rattle.entry_records.specs.Layout.{record_bytes}
+use Rattle.slot_journal.specs.Layout.{record_bytes}
 use Rattle.slot_journal.specs.DiskEntries.{HasRecord}
 use Rattle.slot_journal.specs.Refused.{RefusesSlot}
 use Rattle.slot_journal.proofs.Halves.{entry_found, read_refused, stray_long}

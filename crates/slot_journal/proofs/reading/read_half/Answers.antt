@@ -38,3 +38,13 @@ pub returns-in_err-check_rest-clause-some : goal.returns-in_err-check_rest-claus
 returns-in_err-check_rest-clause-some g c =
     let p = err_from_is_err_and c.from_residual-in_err-check_rest.result c.from_residual-in_err-check_rest.ensures.1 in
     rw (p.1, p.2) (λ is. absurd (subst IsNoWant is c.in_err-check_rest.ensures.memory))
+
+pub returns-in_err-entries-clause-sized : goal.returns-in_err-entries-clause-sized
+returns-in_err-entries-clause-sized g c =
+    let p = err_from_is_err_and c.from_residual.result c.from_residual.ensures.1 in
+    rw (p.1, p.2) c.in_err-entries.ensures.sized
+
+pub returns-in_err-check_rest-clause-sized : goal.returns-in_err-check_rest-clause-sized
+returns-in_err-check_rest-clause-sized g c =
+    let p = err_from_is_err_and c.from_residual-in_err-check_rest.result c.from_residual-in_err-check_rest.ensures.1 in
+    rw (p.1, p.2) c.in_err-check_rest.ensures.sized

@@ -1,7 +1,7 @@
 use Rattle.std.proofs.Common.{arith, refl, ℕ, ◌∙◌, ◌≡◌, ◌-◌, ◌<◌, ◌≤◌, length, take}
 use Rattle.std.proofs.lemmas.List.{length-take}
 use Rattle.std.proofs.lemmas.Result.{err_from_is_err_and}
-use Rattle.dots_disk.specs.Becoming.{RestsWith}
+use Rattle.dots_host.specs.Becoming.{RestsWith}
 use Rattle.slot_store.specs.Opening.{Is}
 use Rattle.slot_store.proofs.Storing.{slot_fits}
 use Rattle.slot_store.proofs.CopyStages.{copy_begins, copy_reads, copy_torn, copy_more, copied_all, mark_torn, mark_more, mark_unsynced, half_left, half_done}

@@ -1,5 +1,5 @@
 use Rattle.std.proofs.Common.{◌≡◌, ℕ, ◌-◌}
-use Rattle.dots_disk.specs.Becoming.{RestsWith}
+use Rattle.dots_host.specs.Becoming.{RestsWith}
 use Rattle.slot_store.specs.Opening.{Is}
 use Rattle.slot_store.specs.Copying.{BesideHalf}
 use Rattle.slot_store.proofs.Stages.{Stage}

@@ -1,6 +1,6 @@
 use Rattle.std.proofs.Common.{subst, ◌∙◌, ◌%◌, arith}
 use Rattle.std.proofs.lemmas.Result.{err_from_is_err_and}
-use Rattle.dots_disk.specs.Becoming.{RestsWith}
+use Rattle.dots_host.specs.Becoming.{RestsWith}
 use Rattle.slot_store.specs.Copying.{IsSelected, other_selector}
 use Rattle.slot_store.proofs.Moving.{move_copied, move_selects, move_rests}
 use Rattle.slot_store.proofs.copying.move_half.Goals as goal

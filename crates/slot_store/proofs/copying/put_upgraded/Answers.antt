@@ -1,5 +1,5 @@
 use Rattle.std.proofs.Common.{refl, ◌≡◌, length, length-drop, arith}
-use Rattle.slot_store.proofs.Upgrading.{upgraded_slot}
+use Rattle.slot_store.proofs.UpgradedRecords.{upgraded_slot}
 use Rattle.slot_store.proofs.copying.put_upgraded.Goals as goal
 
 pub returns-clause-slot : goal.returns-clause-slot

@@ -1,7 +1,7 @@
 use Rattle.std.proofs.Common.{arith, refl, subst, ◌∙◌, ◌≡◌, ℕ, length}
 use Rattle.std.proofs.lemmas.Result.{err_from_is_err_and}
 use Rattle.dots_host.specs.Causes.{Rose}
-use Rattle.record_formats.specs.declared.format.Format.TheVariants.{Two}
+use Rattle.slot_store.specs.declared.format.Format.TheVariants.{Two}
 use Rattle.slot_store.proofs.DiskReading.{sees_at_rest}
 use Rattle.slot_store.proofs.HeaderLemmas.{is_rest}
 use Rattle.slot_store.proofs.FormatLemmas.{format_reads, format_leaves, format_rests}
@@ -15,6 +15,7 @@ returns-in_err-check_gates g c =
       blank = rw p.1 tt;
       formatted = rw p.1 tt;
       refused = rw (p.1, p.2) (λ seen rests. c.in_err-check_gates.ensures.refused seen (sees_at_rest _ seen rests));
+      sized = rw (p.1, p.2) c.in_err-check_gates.ensures.sized;
       unwritten = rw p.1 (λ other. c.in_err-check_gates.ensures.keeps);
       extent = c.in_err-check_gates.ensures.extent;
       cause = rw (p.1, p.2) c.in_err-check_gates.ensures.cause;
@@ -31,6 +32,7 @@ returns-in-Ok g c =
       formatted = λ seen rests gate.
           format_rests _ _ _ c.args.slots c.args.digest.now _ seen rest c.in_ok-check_gates.ensures.keeps c.in-Ok.ensures.opened rests (c.in_ok-check_gates.ensures.none seen (sees_at_rest _ seen rests) gate);
       refused = tt;
+      sized = tt;
       unwritten = tt;
       extent = c.in-Ok.ensures.extent ∙ c.in_ok-check_gates.ensures.extent;
       cause = c.in-Ok.ensures.cause.same ∙ c.in_ok-check_gates.ensures.cause;
@@ -46,6 +48,7 @@ returns-in-Err g c =
       blank = tt;
       formatted = tt;
       refused = λ seen rests. tt;
+      sized = tt;
       unwritten = λ other. absurd (other refl);
       extent = c.in-Err.ensures.extent ∙ c.in_ok-check_gates.ensures.extent;
       cause = subst (λ (n : ℕ). Rose n (g.D.Disk.faults c.open_gate.new.disk)) c.in_ok-check_gates.ensures.cause c.in-Err.ensures.cause.rose;

@@ -1,5 +1,5 @@
 use Rattle.std.proofs.Common.{arith, ◌≡◌, length}
-use Rattle.record_formats.specs.declared.format.Format.TheVariants.{One}
+use Rattle.slot_store.specs.declared.format.Format.TheVariants.{One}
 use Rattle.slot_store.proofs.HeaderLemmas.{is_rest}
 use Rattle.slot_store.proofs.FormatLemmas.{zeros_leave, zeros_rest}
 use Rattle.slot_store.proofs.formatting.format_one.Goals as goal

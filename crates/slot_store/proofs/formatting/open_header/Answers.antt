@@ -1,6 +1,6 @@
 use Rattle.std.proofs.Common.{ℕ, ◌≡◌, ◌≢◌, refl}
-use Rattle.dots_disk.specs.Media.{bytes_at}
-use Rattle.dots_disk.specs.Becoming.{KeepsMedia, RestsWith}
+use Rattle.dots_host.specs.Media.{bytes_at}
+use Rattle.dots_host.specs.Becoming.{KeepsMedia, RestsWith}
 use Rattle.slot_store.specs.Gates.{Sees}
 use Rattle.slot_store.specs.Opening.{Is}
 use Rattle.slot_store.specs.Refusing.{RefusesDisk, IsOpen}

@@ -1,6 +1,6 @@
 use Rattle.std.proofs.Common.{arith, ◌≡◌, ◌∙◌, ap, length}
 use Rattle.std.proofs.lemmas.Result.{err_from_is_err_and}
-use Rattle.dots_disk.specs.Media.{bytes_at}
+use Rattle.dots_host.specs.Media.{bytes_at}
 use Rattle.slot_store.specs.Opening.{Is}
 use Rattle.slot_store.proofs.DiskReading.{reads_none, reads_more, reads_lost, rests_unchanged, sees_at_rest, bytes_seen}
 use Rattle.slot_store.proofs.OpenLemmas.{sync_lost, sync_left, sync_rests, sync_reads}

@@ -1,5 +1,5 @@
 use Rattle.std.proofs.Common.{◌≡◌, ℕ}
-use Rattle.dots_disk.specs.Becoming.{KeepsMedia}
+use Rattle.dots_host.specs.Becoming.{KeepsMedia}
 use Rattle.slot_store.specs.Gates.{Sees, NoneIs}
 use Rattle.slot_store.proofs.gates.find_gate.Given as goal
 

@@ -1,9 +1,9 @@
 use Rattle.std.proofs.Common.{arith, ◌∙◌, ap, refl, ℕ, ◌≤◌, ◌∷◌, [], length, replicate}
 use Rattle.std.specs.Int.{w32, to_be_bytes}
 use Rattle.std.proofs.lemmas.List.{get_or_past}
-use Rattle.dots_disk.specs.Media.{byte_of, overwritten}
-use Rattle.dots_disk.proofs.WrittenLemmas.{overwritten_below, overwritten_byte}
-use Rattle.record_formats.specs.Formats.{format_byte}
+use Rattle.dots_host.specs.Media.{byte_of, overwritten}
+use Rattle.dots_host.proofs.WrittenLemmas.{overwritten_below, overwritten_byte}
+use Rattle.slot_store.specs.Formats.{format_byte}
 use Rattle.slot_store.specs.Layout.{header_of}
 use Rattle.slot_store.proofs.HeaderLemmas.{parts, with_formats, zeros}
 use Rattle.slot_store.proofs.header.header.Goals as goal

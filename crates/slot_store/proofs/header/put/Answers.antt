@@ -1,5 +1,5 @@
 use Rattle.std.proofs.Common.{arith, ◌+◌, ◌-◌, ◌≡◌, length}
-use Rattle.dots_disk.proofs.ContentLemmas.{put_same}
+use Rattle.dots_host.proofs.ContentLemmas.{put_same}
 use Rattle.slot_store.proofs.header.put.Goals as goal
 
 pub returns : goal.returns

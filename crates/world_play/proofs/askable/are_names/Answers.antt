@@ -1,7 +1,7 @@
 use Rattle.std.proofs.Common.{ℕ, List}
 use Rattle.std.specs.Prelude.{IsTrue}
 use Rattle.dots_lists.specs.Name.{is_name}
-use Rattle.entry_records.proofs.Writings.{all_next}
+use Rattle.slot_journal.proofs.Writings.{all_next}
 use Rattle.world_play.proofs.askable.are_names.Goals as goal
 
 pub loop-name-preserved : goal.loop-name-preserved

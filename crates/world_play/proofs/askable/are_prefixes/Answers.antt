@@ -1,5 +1,5 @@
 use Rattle.ip_scope.specs.Prefix.{IsPrefix}
-use Rattle.entry_records.proofs.Writings.{all_next}
+use Rattle.slot_journal.proofs.Writings.{all_next}
 use Rattle.world_play.proofs.askable.are_prefixes.Goals as goal
 
 pub loop-prefix-preserved : goal.loop-prefix-preserved

@@ -1,5 +1,5 @@
 use Rattle.std.proofs.Common.{arith}
-use Rattle.entry_records.proofs.Writings.{bytes_are}
+use Rattle.slot_journal.proofs.Writings.{bytes_are}
 use Rattle.world_play.proofs.askable.are_protocols.Goals as goal
 
 pub returns : goal.returns

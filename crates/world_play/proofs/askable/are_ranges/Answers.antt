@@ -1,5 +1,5 @@
-use Rattle.agent_messages.specs.Asked.{IsRange}
-use Rattle.entry_records.proofs.Writings.{all_next}
+use Rattle.dots_client.specs.Asked.{IsRange}
+use Rattle.slot_journal.proofs.Writings.{all_next}
 use Rattle.world_play.proofs.askable.are_ranges.Goals as goal
 
 pub loop-range-preserved : goal.loop-range-preserved

@@ -1,6 +1,6 @@
 use Rattle.std.proofs.Common.{take}
 use Rattle.std.specs.List.{AllByRecursion}
-use Rattle.agent_messages.specs.Asked.{IsRange}
+use Rattle.dots_client.specs.Asked.{IsRange}
 use Rattle.world_play.proofs.askable.are_ranges.Given as goal
 
 abbrev pub invariant-loop-range : goal.invariant-loop-range

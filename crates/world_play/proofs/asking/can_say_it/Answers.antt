@@ -2,7 +2,7 @@ use Rattle.std.proofs.Common.{ap, sym, subst, ◌∙◌}
 use Rattle.std.specs.Prelude.{option_map}
 use Rattle.dots_client.specs.declared.ask.Ask.{Ask}
 use Rattle.dots_client.specs.Client.{IsKnown}
-use Rattle.world_play.proofs.Asks.{scope_there}
+use Rattle.world_play.proofs.AskLemmas.{scope_there}
 use Rattle.world_play.proofs.asking.can_say_it.Goals as goal
 
 pub unreachable-requires : goal.unreachable-requires

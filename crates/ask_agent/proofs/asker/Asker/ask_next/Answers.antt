@@ -1,6 +1,6 @@
 use Rattle.std.proofs.Common.{◌≡◌, ◌+◌, true, List, Some, None, sym, ap, subst, append-nil, arith}
 use Rattle.std.specs.Prelude.{is_some}
-use Rattle.ask_settings.specs.declared.planned.Planned.{Planned}
+use Rattle.ask_agent.specs.declared.planned.Planned.{Planned}
 use Rattle.ask_agent.specs.declared.unsent.Unsent.{Unsent}
 use Rattle.ask_agent.specs.Asking.{AskState, Makes, next_ask}
 use Rattle.ask_agent.proofs.Asks.{stated, asked_next, next_seen, reached_within}

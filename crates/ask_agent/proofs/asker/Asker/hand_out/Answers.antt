@@ -1,5 +1,5 @@
 use Rattle.std.proofs.Common.{ap, subst}
-use Rattle.dots_agents.specs.Sending.{Handed}
+use Rattle.dots_host.specs.Sending.{Handed}
 use Rattle.ask_agent.specs.Asking.{AskState, Drains, to_server}
 use Rattle.ask_agent.proofs.asker.Asker.hand_out.Goals as goal
 

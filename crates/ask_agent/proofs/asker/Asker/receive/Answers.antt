@@ -1,5 +1,5 @@
 use Rattle.std.proofs.Common.{[], ap}
-use Rattle.dots_agents.proofs.Sends.{handed_none}
+use Rattle.dots_host.proofs.Sends.{handed_none}
 use Rattle.ask_agent.specs.Asking.{AskState}
 use Rattle.ask_agent.proofs.Turns.{receives_other}
 use Rattle.ask_agent.proofs.asker.Asker.receive.Goals as goal

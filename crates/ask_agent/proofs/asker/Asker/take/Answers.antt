@@ -1,6 +1,6 @@
 use Rattle.std.proofs.Common.{◌∙◌, ℕ, List, ap, subst}
 use Rattle.dots_host.specs.Acts.{event_of}
-use Rattle.dots_agents.specs.Sending.{Handed}
+use Rattle.dots_host.specs.Sending.{Handed}
 use Rattle.ask_agent.specs.Asking.{AskState, ReceivesEvent, to_server}
 use Rattle.ask_agent.proofs.Turns.{takes_joined}
 use Rattle.ask_agent.proofs.asker.Asker.take.Goals as goal

@@ -2,7 +2,7 @@ use Rattle.std.proofs.Common.{[], refl, sym, subst}
 use Rattle.dots_host.specs.Acts.{event_of}
 use Rattle.dots_host.specs.Runs.{Gives}
 use Rattle.dots_host.proofs.RunLemmas.{added_none}
-use Rattle.dots_agents.proofs.Sends.{handed_gives}
+use Rattle.dots_host.proofs.Sends.{handed_gives}
 use Rattle.ask_agent.specs.Asking.{step}
 use Rattle.ask_agent.specs.Unmoved.{step_ends, step_fails}
 use Rattle.ask_agent.proofs.Turns.{taken_turns}

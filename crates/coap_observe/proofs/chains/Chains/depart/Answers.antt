@@ -1,8 +1,8 @@
 use Rattle.std.proofs.Common.{length, ap, sym, ◌∙◌, arith}
 use Rattle.std.specs.Prelude.{position}
 use Rattle.std.proofs.lemmas.Bool.{false≢true}
-use Rattle.linked_orders.specs.Orders.{has_slot}
-use Rattle.linked_orders.specs.Rings.{RingsValue, RingValue, one_less}
+use Rattle.coap_observe.specs.Orders.{has_slot}
+use Rattle.coap_observe.specs.Rings.{RingsValue, RingValue, one_less}
 use Rattle.coap_observe.specs.Chains.{ChainsValue, is_chain_of, keys_in, one_left, chains_of}
 use Rattle.coap_observe.proofs.Chaining.{left_at, chain_within, left_nowhere, keys_placed, keys_nowhere}
 use Rattle.coap_observe.proofs.Pairing.{length_chains, length_rings, ring_placed, less_placed, nowhere_all}

@@ -1,5 +1,5 @@
 use Rattle.std.proofs.Common.{◌<◌, length, ap, sym, subst, ◌∙◌, arith}
-use Rattle.linked_orders.specs.Rings.{RingValue}
+use Rattle.coap_observe.specs.Rings.{RingValue}
 use Rattle.coap_observe.specs.Chains.{ChainsValue, chain_at}
 use Rattle.coap_observe.proofs.Pairing.{length_chains, ring_placed}
 use Rattle.coap_observe.proofs.chains.Chains.len.Goals as goal

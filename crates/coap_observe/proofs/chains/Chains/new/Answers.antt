@@ -1,6 +1,6 @@
 use Rattle.std.proofs.Common.{length, map, ap, sym, subst, ◌∙◌}
 use Rattle.std.proofs.lemmas.List.{length-map}
-use Rattle.linked_orders.specs.Rings.{RingsValue, begun}
+use Rattle.coap_observe.specs.Rings.{RingsValue, begun}
 use Rattle.coap_observe.specs.Chains.{peer_chain, peer_in, chains_of, AreFirsts}
 use Rattle.coap_observe.proofs.Firsts.{peers_begin}
 use Rattle.coap_observe.proofs.Pairing.{length_begun, chains_begin}

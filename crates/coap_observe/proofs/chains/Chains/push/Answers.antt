@@ -1,6 +1,6 @@
 use Rattle.std.proofs.Common.{◌<◌, ◌^◌, length, ap, sym, subst, ◌∙◌, rules, arith}
 use Rattle.std.specs.Prelude.{position}
-use Rattle.linked_orders.specs.Rings.{RingsValue, RingValue, one_more}
+use Rattle.coap_observe.specs.Rings.{RingsValue, RingValue, one_more}
 use Rattle.coap_observe.specs.declared.chains.Chain.{Chain}
 use Rattle.coap_observe.specs.Chains.{ChainsValue, is_chain_of, keys_in, room_in, one_chained, chains_of, IsNowhere}
 use Rattle.coap_observe.proofs.Chaining.{chained_at, chain_within, chained_nowhere, keys_placed, room_placed}

@@ -1,6 +1,6 @@
 use Rattle.std.proofs.Common.{◌<◌, ◌∷◌, [], ◌++◌, length, ap, sym, subst, ◌∙◌, arith}
 use Rattle.slab.specs.Slab.{get}
-use Rattle.linked_orders.specs.Orders.{OrderValue}
+use Rattle.coap_observe.specs.Orders.{OrderValue}
 use Rattle.coap_observe.specs.Rolls.{RollValue, has_key, members_of, AreThere}
 use Rattle.coap_observe.proofs.Entering.{length_more}
 use Rattle.coap_observe.proofs.Rolling.{length_members, has_members, off_keys, none_has, members_last, pushed_there}

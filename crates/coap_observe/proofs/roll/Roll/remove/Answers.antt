@@ -1,6 +1,6 @@
 use Rattle.std.proofs.Common.{◌≡◌, true, length, ap, sym, subst, ◌∙◌, arith}
 use Rattle.slab.specs.Slab.{get}
-use Rattle.linked_orders.specs.Orders.{OrderValue}
+use Rattle.coap_observe.specs.Orders.{OrderValue}
 use Rattle.coap_observe.specs.Rolls.{RollValue, has_key, without_key, members_of, AreThere}
 use Rattle.coap_observe.proofs.Rolling.{has_members, members_less, removed_there, length_less, is_there}
 use Rattle.coap_observe.proofs.roll.Roll.remove.Goals as goal

@@ -1,7 +1,7 @@
 use Rattle.std.proofs.Common.{◌≡◌, ℕ, None, map, drop}
 use Rattle.std.specs.Ordering.{nat_cmp}
 use Rattle.std.specs.BTreeMap.{get}
-use Rattle.host_file.specs.HostLine.{line_value}
+use Rattle.dots_edge.specs.HostLine.{line_value}
 use Rattle.dots_edge.specs.Peers.{whose}
 use Rattle.dots_edge.proofs.peers.Peers.new.Given as goal
 

@@ -1,6 +1,6 @@
 use Rattle.std.proofs.Common.{List, refl, sym, ap, subst, ◌∙◌}
 use Rattle.coap_message.specs.Salvage.{salvaged}
-use Rattle.coap_replies.specs.Exchanges.{dismissed_unread}
+use Rattle.dots_keys.specs.Exchanges.{dismissed_unread}
 use Rattle.dots_gateway.specs.declared.routes.Route.{Route}
 use Rattle.dots_gateway.specs.Exchanges.{ExchangesValue}
 use Rattle.dots_gateway.specs.Gateway.{GatewayValue, Ups, UpOrLacks, gateway_at, dismissed_said, unreadable, asking, asked_said}

@@ -3,7 +3,7 @@ use Rattle.std.specs.List.{list_any}
 use Rattle.std.proofs.lemmas.Bool.{cases_eq, and_left, and_right}
 use Rattle.dots_history.specs.Histories.{mitigations, held}
 use Rattle.dots_history.specs.Rows.{is_lost_in}
-use Rattle.dots_laws.specs.Views.{mitigations_of}
+use Rattle.dots_history.specs.Views.{mitigations_of}
 use Rattle.installed_filters.proofs.HistoryRows.{live_inside}
 use Rattle.dots_registry.specs.RegistryValues.{RegistryValue, Represents, time_of}
 use Rattle.dots_registry.proofs.RegistryValues.{joined}

@@ -2,7 +2,7 @@ use Rattle.std.proofs.Common.{List, ap, ◌∙◌, sym, subst, map}
 use Rattle.dots_history.specs.Histories.{Mitigation, held}
 use Rattle.conflict_rules.specs.Lives.{live_of, lives_of}
 use Rattle.live_mitigations.proofs.Room.{lives_are}
-use Rattle.dots_laws.specs.Held.{aliases_of, registrant}
+use Rattle.dots_history.specs.Held.{aliases_of, registrant}
 use Rattle.conflict_rules.specs.Requests.{Request}
 use Rattle.dots_registry.specs.RegistryValues.{RegistryValue, Represents, time_of}
 use Rattle.dots_registry.proofs.RegistryValues.{joined}

@@ -1,6 +1,6 @@
 use Rattle.std.proofs.Common.{◌≡◌, ℕ, ◌≤◌, List, length, sym, ap, ◌∙◌, subst, le_trans}
 use Rattle.dots_history.specs.Slots.{Slots}
-use Rattle.dots_laws.specs.KeptPlaces.{union}
+use Rattle.dots_history.specs.KeptPlaces.{union}
 use Rattle.dots_registry.specs.Kept.{all_kept, named_slots}
 use Rattle.dots_registry.specs.RegistryValues.{RegistryValue, time_of, number_remembered}
 use Rattle.dots_registry.specs.Filed.{RepresentsFiled, slots_kept, most_kept}

@@ -1,5 +1,5 @@
 use Rattle.std.proofs.Common.{◌<◌, [], ◌∷◌, ◌++◌, map, Some, subst, sym, ap, ◌∙◌}
-use Rattle.dots_laws.specs.Filed.{entry_of}
+use Rattle.dots_history.specs.Filed.{entry_of}
 use Rattle.dots_registry.specs.RegistryValues.{RegistryValue}
 use Rattle.dots_registry.specs.Filed.{RepresentsFiled}
 use Rattle.held_resources.specs.Rows.{HeldRows}

@@ -4,7 +4,7 @@ use Rattle.std.specs.List.{list_any}
 use Rattle.std.proofs.lemmas.Bool.{or_left}
 use Rattle.dots_history.specs.Histories.{Mitigation, mitigations, held}
 use Rattle.dots_history.specs.Rows.{triggers}
-use Rattle.dots_laws.specs.HistoryReading.{is_mitigated}
+use Rattle.dots_history.specs.HistoryReading.{is_mitigated}
 use Rattle.dots_registry.specs.RegistryValues.{RegistryValue, Represents, time_of}
 use Rattle.dots_registry.proofs.RegistryValues.{joined}
 use Rattle.dots_registry.proofs.Mitigating.{of_lost, by_kind}

@@ -1,5 +1,5 @@
 use Rattle.std.proofs.Common.{map, refl, subst}
-use Rattle.dots_laws.specs.Filed.{refiled, entry_of}
+use Rattle.dots_history.specs.Filed.{refiled, entry_of}
 use Rattle.dots_registry.specs.Kept.{filed, filed_kept}
 use Rattle.dots_history.specs.Keeping.{kept}
 use Rattle.dots_registry.specs.RegistryValues.{RegistryValue, Represents, IsOf, time_of, number_remembered}

@@ -1,8 +1,8 @@
 use Rattle.std.proofs.Common.{[], ◌∷◌, ◌++◌, map, Some, refl, ap, sym, ◌∙◌, ◌≤◌, length, subst}
-use Rattle.dots_laws.specs.Filed.{entry_of}
+use Rattle.dots_history.specs.Filed.{entry_of}
 use Rattle.dots_registry.specs.RegistryValues.{RegistryValue}
 use Rattle.dots_registry.specs.Filed.{RepresentsFiled}
-use Rattle.dots_laws.specs.Tables.{bare}
+use Rattle.dots_history.specs.Tables.{bare}
 use Rattle.dots_registry.proofs.Filed.{quiet_rows, filed_more, room_more}
 use Rattle.dots_registry.proofs.Rings.{made_pairs}
 use Rattle.dots_registry.proofs.RegistryValues.{joined, still_of, fits_ring, put_inside, put_room, put_represents}

@@ -1,5 +1,5 @@
 use Rattle.std.proofs.Common.{map, sym, subst, ◌∙◌, refl, ap, arith}
-use Rattle.dots_laws.specs.Filed.{entry_of}
+use Rattle.dots_history.specs.Filed.{entry_of}
 use Rattle.dots_registry.specs.Filed.{RepresentsFiled}
 use Rattle.dots_registry.proofs.Filed.{filed_later, slots_still}
 use Rattle.dots_registry.specs.RegistryValues.{RegistryValue, Represents}

@@ -1,11 +1,11 @@
 use Rattle.std.proofs.Common.{[], ◌∷◌, ◌++◌, map, Some, subst, ap, ◌∙◌}
-use Rattle.dots_laws.specs.Filed.{entry_of}
+use Rattle.dots_history.specs.Filed.{entry_of}
 use Rattle.dots_registry.specs.RegistryValues.{RegistryValue}
 use Rattle.dots_registry.specs.Filed.{RepresentsFiled}
 use Rattle.held_resources.specs.Rows.{HeldRows}
 use Rattle.dots_registry.proofs.Filed.{name_here, room_here, rows_here, filed_more, room_more}
 use Rattle.dots_history.specs.Histories.{held}
-use Rattle.dots_laws.specs.Held.{acls_of}
+use Rattle.dots_history.specs.Held.{acls_of}
 use Rattle.installed_filters.specs.Filters.{FiltersValue}
 use Rattle.dots_registry.proofs.Filtering.{write_fits, write_filtered}
 use Rattle.dots_registry.proofs.Rings.{made_pairs}

@@ -1,6 +1,6 @@
 use Rattle.std.proofs.Common.{ap, ◌∙◌}
 use Rattle.dots_registry.specs.RegistryValues.{time_of}
-use Rattle.dots_machine.specs.Sessions.{config_in, configured_by, values_in_force, beat_of}
+use Rattle.dots_machine.specs.ConfiguredPeers.{config_in, configured_by, values_in_force, beat_of}
 use Rattle.dots_server.proofs.LostSignals.{mitigated_for}
 use Rattle.dots_server.proofs.beating.PeerBeatsConfigs.beat.Goals as goal
 

@@ -1,5 +1,5 @@
 use Rattle.std.proofs.Common.{◌++◌, ◌∙◌, sym, ap, map, flat_map, append-nil}
-use Rattle.filter_rows.specs.declared.rows.AclRow.{AclRow}
+use Rattle.acl_lists.specs.declared.rows.AclRow.{AclRow}
 use Rattle.filter_table.specs.TableRows.{row_of_acl}
 use Rattle.dots_machine.specs.Report.{list_lines}
 use Rattle.dots_server.specs.Lines.{only_where}

@@ -1,5 +1,5 @@
 use Rattle.std.proofs.Common.{◌≡◌, List, ℕ, ◌++◌, map, flat_map}
-use Rattle.filter_rows.specs.declared.rows.AclRow.{AclRow}
+use Rattle.acl_lists.specs.declared.rows.AclRow.{AclRow}
 use Rattle.filter_table.specs.TableRows.{row_of_acl}
 use Rattle.dots_machine.specs.Report.{list_lines}
 use Rattle.dots_server.specs.Gathering.{sunk, Puts}

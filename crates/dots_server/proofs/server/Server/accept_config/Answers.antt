@@ -2,7 +2,7 @@ use Rattle.std.proofs.Common.{sym, ap, ◌∙◌, subst}
 use Rattle.dots_registry.specs.RegistryValues.{time_of}
 use Rattle.dots_machine.specs.Deciding.{config_entry}
 use Rattle.dots_server.specs.ServerValues.{ServerValue, IsAcceptable}
-use Rattle.dots_server.proofs.Sessions.{config_acceptable}
+use Rattle.dots_server.proofs.HearingPeers.{config_acceptable}
 use Rattle.dots_server.proofs.server.Server.accept_config.Goals as goal
 
 pub returns-clause-ready : goal.returns-clause-ready

@@ -6,13 +6,13 @@ use Rattle.dots_machine.specs.Verdict.{Verdict}
 use Rattle.dots_machine.specs.Observing.{number_of, observing}
 use Rattle.dots_machine.specs.Machine.{State, Decides, sends_of, after, watched}
 use Rattle.dots_machine.proofs.Hearing.{after_observers}
-use Rattle.dots_machine.proofs.Observing.{told_history, told_time}
+use Rattle.dots_machine.proofs.Observing.{notified_history, notified_time}
 use Rattle.dots_machine.proofs.Surviving.{verdict_grows}
 use Rattle.dots_server.specs.Observing.{changed}
 use Rattle.dots_server.specs.ServerValues.{ServerValue, IsKept}
 use Rattle.dots_server.specs.Turning.{TurnedTo, Broke}
 use Rattle.dots_server.proofs.Notifying.{observed_kept}
-use Rattle.dots_server.proofs.Turning.{told_behind}
+use Rattle.dots_server.proofs.Turning.{notices_behind}
 use Rattle.dots_server.proofs.Watching.{spoken_sends, spoken_after, spoken_accepts}
 use Rattle.dots_server.proofs.server.Server.answer.Goals as goal
 
@@ -59,8 +59,8 @@ returns-clause-done g c = λ settings state here entries datagram kept came hear
     let told = c.notify.ensures.notified settings from few (subst (λ (server : ServerValue). IsKept server settings from few) (sym c.observe.ensures) observed_now) in
     let notices = told.0 in
     let new = told.1 in
-    let history_is : new.history ≡ (after does.decided here).history = told_history settings from new notices told.2 in
-    let time_is : new.time ≡ (after does.decided here).time = told_time settings from new notices told.2 in
+    let history_is : new.history ≡ (after does.decided here).history = notified_history settings from new notices told.2 in
+    let time_is : new.time ≡ (after does.decided here).time = notified_time settings from new notices told.2 in
     let grown = verdict_grows does.decided here in
     record {
       sends = replies ++ notices;
@@ -80,7 +80,7 @@ returns-clause-done g c = λ settings state here entries datagram kept came hear
         sends_are = refl;
       };
       kept = told.3;
-      turned = told_behind settings here (after does.decided here) new replies notices (journal.Represents c.args.self.now.journal settings entries) (journal.Represents c.notify.new.self.journal settings few) (g.H.Disk.media host)
+      turned = notices_behind settings here (after does.decided here) new replies notices (journal.Represents c.args.self.now.journal settings entries) (journal.Represents c.notify.new.self.journal settings few) (g.H.Disk.media host)
           (g.H.Disk.media between) (g.H.Disk.media left) (g.H.Wire.moment between) (g.H.Wire.moment left) (g.H.Wire.acts host) (g.H.Wire.acts between) (g.H.Wire.acts left)
           (subst
           (λ (now : State). TurnedTo (g.H.Wire.moment between) settings here now replies (journal.Represents c.args.self.now.journal settings entries) (journal.Represents c.notify.new.self.journal settings few) (g.H.Disk.media host)

@@ -2,14 +2,14 @@ use Rattle.std.proofs.Common.{◌<◌, ◌≤◌, List, arith, [], ◌∷◌, re
 use Rattle.std.proofs.lemmas.Bool.{false≢true}
 use Rattle.dots_host.specs.declared.out.OwnedOut.TheVariants as owned
 use Rattle.dots_host.proofs.RunLemmas.{added_none}
-use Rattle.dots_notices.specs.Notifying.{SentTo}
+use Rattle.session_core.specs.Notifying.{SentTo}
 use Rattle.slot_store.specs.Layout.{needed_of}
 use Rattle.slot_journal.specs.DiskEntries as journal
 use Rattle.stream_table.specs.Lines.{PeerLines, forgotten}
 use Rattle.stream_table.specs.Places.{IsAt, line_at}
 use Rattle.rest_answers.specs.Replies.{refusal}
 use Rattle.rest_answers.specs.Turns.{reply_in, closing}
-use Rattle.dots_ledger.proofs.Answering.{err_of}
+use Rattle.dots_registry.proofs.Answering.{err_of}
 use Rattle.dots_server.specs.ServerValues.{ServerValue, IsKept}
 use Rattle.dots_server.specs.Turning.{TurnedTo, Broke}
 use Rattle.dots_server.specs.Pieces.{CanAnswer, having, bytes_on}

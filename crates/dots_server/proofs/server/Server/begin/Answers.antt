@@ -22,3 +22,8 @@ pub returns-in_err-ledger-clause-unwritten : goal.returns-in_err-ledger-clause-u
 returns-in_err-ledger-clause-unwritten g c =
     let p = err_from_is_err_and c.from_residual-in_err-ledger.result c.from_residual-in_err-ledger.ensures.1 in
     rw (p.1, p.2) c.in_err-ledger.ensures.unwritten
+
+pub returns-in_err-ledger-clause-small : goal.returns-in_err-ledger-clause-small
+returns-in_err-ledger-clause-small g c =
+    let p = err_from_is_err_and c.from_residual-in_err-ledger.result c.from_residual-in_err-ledger.ensures.1 in
+    rw (p.1, p.2) c.in_err-ledger.ensures.small

@@ -1,9 +1,9 @@
 use Rattle.std.proofs.Common.{arith, [], ◌∷◌, refl, ◌∙◌, subst}
 use Rattle.dots_host.specs.declared.out.OwnedOut.TheVariants as owned
 use Rattle.dots_host.specs.Runs.{Added}
-use Rattle.dots_notices.specs.Notifying.{SentTo}
+use Rattle.session_core.specs.Notifying.{SentTo}
 use Rattle.slot_journal.specs.DiskEntries as journal
-use Rattle.dots_ledger.proofs.Answering.{err_of}
+use Rattle.dots_registry.proofs.Answering.{err_of}
 use Rattle.dots_machine.specs.Machine.{with_entry}
 use Rattle.dots_server.specs.ServerValues.{CanCarryOut}
 use Rattle.dots_server.proofs.Turning.{silent_to, unwritten_to, sent_behind}

@@ -3,17 +3,17 @@ use Rattle.dots_settings.specs.Lookups.{role_of}
 use Rattle.dots_history.specs.declared.entry.Entry.{Entry}
 use Rattle.dots_history.specs.declared.change.Change.TheVariants as change
 use Rattle.dots_history.specs.Histories.{held}
-use Rattle.dots_laws.specs.Calm.{may_configure}
-use Rattle.dots_laws.specs.Held.{config_of}
+use Rattle.dots_history.specs.Calm.{may_configure}
+use Rattle.dots_history.specs.Held.{config_of}
 use Rattle.held_resources.specs.Tables.{config_now}
 use Rattle.dots_registry.specs.RegistryValues.{time_of}
 use Rattle.dots_registry.specs.RegistryValues as registry
 use Rattle.dots_machine.specs.declared.verdict.Verdict.TheVariants as verdict
-use Rattle.dots_machine.specs.Sessions.{is_held, configured_in}
+use Rattle.dots_machine.specs.ConfiguredPeers.{is_held, configured_in}
 use Rattle.dots_machine.specs.Deciding.{config_entry, clear_answer}
 use Rattle.dots_server.specs.ServerValues.{ServerValue, Represents}
 use Rattle.dots_server.proofs.Verdicts.{if_ok}
-use Rattle.dots_server.proofs.Sessions.{configured_here, clearing_configures}
+use Rattle.dots_server.proofs.HearingPeers.{configured_here, clearing_configures}
 use Rattle.dots_server.proofs.server.Server.clear_config.Goals as goal
 
 pub accept_config-requires-clause-configures : goal.accept_config-requires-clause-configures

@@ -1,6 +1,6 @@
 use Rattle.std.proofs.Common.{sym, ap, ◌∙◌, subst}
 use Rattle.dots_machine.specs.declared.verdict.Verdict.TheVariants as verdict
-use Rattle.target_rules.specs.Targets.{scope_fault}
+use Rattle.conflict_rules.specs.AskableTargets.{scope_fault}
 use Rattle.dots_server.specs.ServerValues.{Represents}
 use Rattle.dots_server.proofs.Verdicts.{if_ok, server_finds_fault, server_repeats, server_goes_by_rules}
 use Rattle.dots_server.proofs.server.Server.decide_asked.Goals as goal

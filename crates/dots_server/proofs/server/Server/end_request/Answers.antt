@@ -1,6 +1,6 @@
 use Rattle.std.proofs.Common.{List, drop, ap, ◌∙◌}
 use Rattle.stream_table.specs.Lines.{PeerLines}
-use Rattle.dots_notices.proofs.Sends.{sent_none, keeps_still}
+use Rattle.session_core.proofs.Sends.{sent_none, keeps_still}
 use Rattle.dots_server.proofs.Rows.{held_all}
 use Rattle.dots_server.proofs.server.Server.end_request.Goals as goal
 

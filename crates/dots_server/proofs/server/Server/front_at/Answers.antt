@@ -5,7 +5,7 @@ use Rattle.stream_table.proofs.Placing.{is_there}
 use Rattle.dots_data.specs.Accepting.{IsInUse, FrontCanBeCarriedOut}
 use Rattle.dots_server.specs.ServerValues.{ServerValue}
 use Rattle.dots_server.specs.Pieces.{CanAnswerFront}
-use Rattle.dots_server.proofs.Standing.{in_use, can_answer, stands_there}
+use Rattle.dots_server.proofs.FrontsInUse.{in_use, can_answer, stands_there}
 use Rattle.dots_server.proofs.server.Server.front_at.Goals as goal
 
 pub caller_there-caller-requires-clause-there : goal.caller_there-caller-requires-clause-there

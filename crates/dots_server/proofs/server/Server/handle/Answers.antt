@@ -3,15 +3,15 @@ use Rattle.dots_host.specs.Runs.{Added, Gives, each_telling}
 use Rattle.dots_host.proofs.RunLemmas.{added_weaker}
 use Rattle.slot_store.specs.StoreValues.{JournalValue}
 use Rattle.slot_journal.specs.DiskEntries as journal
-use Rattle.dots_ledger.proofs.Answering.{ok_as, err_as, err_of}
-use Rattle.dots_notices.specs.Beats.{beats}
+use Rattle.dots_registry.proofs.Answering.{ok_as, err_as, err_of}
+use Rattle.session_core.specs.Beats.{beats}
 use Rattle.std.specs.Prelude.{slice_get}
 use Rattle.coap_observe.specs.Observed.{is_due}
-use Rattle.dots_notices.specs.declared.watch.Watch.{Watch}
+use Rattle.session_core.specs.declared.watch.Watch.{Watch}
 use Rattle.dots_registry.specs.RegistryValues.{RegistryValue}
 use Rattle.dots_registry.specs.ObserverViews.{views_of}
-use Rattle.dots_notices.specs.Notifying.{SentTo, IsKnown}
-use Rattle.dots_notices.proofs.Sends.{sent_then, keeps_then}
+use Rattle.session_core.specs.Notifying.{SentTo, IsKnown}
+use Rattle.session_core.proofs.Sends.{sent_then, keeps_then}
 use Rattle.stream_table.specs.Lines.{opened, opening, forgotten}
 use Rattle.dots_machine.specs.Machine.{later, lapsed, beating, connected, disconnected, turned_away}
 use Rattle.dots_server.specs.ServerValues.{ServerValue, IsKept}

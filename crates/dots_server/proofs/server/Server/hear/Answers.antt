@@ -4,7 +4,7 @@ use Rattle.std.proofs.lemmas.Bool.{false≢true}
 use Rattle.session_core.specs.Contacts.{is_of, heard_from}
 use Rattle.dots_registry.specs.RegistryValues.{time_of}
 use Rattle.dots_server.specs.ServerValues.{ServerValue, IsServing}
-use Rattle.dots_server.proofs.Sessions.{heard_lives, not_heard}
+use Rattle.dots_server.proofs.HearingPeers.{heard_lives, not_heard}
 use Rattle.dots_server.proofs.server.Server.hear.Goals as goal
 use Rattle.dots_server.proofs.server.Server.hear.Goals.{else-heard-via-then-heard+else-holds, else-heard-via-else-heard}
 

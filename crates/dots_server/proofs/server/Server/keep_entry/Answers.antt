@@ -2,10 +2,10 @@ use Rattle.std.proofs.Common.{[], ◌∷◌, refl, sym, ap, ◌∙◌, subst, ap
 use Rattle.dots_settings.specs.declared.limits.Limits.{Limits}
 use Rattle.dots_history.specs.declared.entry.Entry.{Entry}
 use Rattle.coap_observe.specs.DueAmong.{joined}
-use Rattle.dots_disk.specs.Becoming.{RestsWith, Leaves}
+use Rattle.dots_host.specs.Becoming.{RestsWith, Leaves}
 use Rattle.slot_journal.specs.DiskEntries as journal
 use Rattle.dots_registry.specs.RegistryValues.{time_of, number_remembered}
-use Rattle.dots_ledger.proofs.Answering.{err_of}
+use Rattle.dots_registry.proofs.Answering.{err_of}
 use Rattle.dots_machine.specs.Machine.{with_entry}
 use Rattle.dots_server.specs.ServerValues.{ServerValue, IsKept, IsAcceptable}
 use Rattle.dots_server.specs.Turning.{HasTurn, Wrote}

@@ -4,7 +4,7 @@ use Rattle.dots_history.specs.declared.entry.Entry.{Entry}
 use Rattle.slot_journal.specs.DiskEntries as journal
 use Rattle.installed_filters.specs.Filters.{needs_rows}
 use Rattle.dots_registry.specs.RegistryValues.{time_of}
-use Rattle.dots_ledger.proofs.Answering.{ok_as, err_as}
+use Rattle.dots_registry.proofs.Answering.{ok_as, err_as}
 use Rattle.dots_machine.specs.Signals.{signal_entry}
 use Rattle.dots_machine.specs.Machine.{with_entry}
 use Rattle.dots_server.specs.ServerValues.{ServerValue, IsKept, IsAcceptable}

@@ -1,7 +1,7 @@
 use Rattle.std.proofs.Common.{◌<◌, length, arith, refl, ap, ◌∙◌, subst}
 use Rattle.dots_host.proofs.RunLemmas.{added_none}
 use Rattle.dots_settings.specs.Settings.{IsSettings}
-use Rattle.dots_ledger.proofs.Answering.{err_of}
+use Rattle.dots_registry.proofs.Answering.{err_of}
 use Rattle.dots_server.specs.ServerValues.{ServerValue}
 use Rattle.dots_server.proofs.Following.{added_on}
 use Rattle.dots_server.proofs.Lapsing.{none_lapsed, one_lapsed, broke_lapsed, all_lapsed}

@@ -1,6 +1,6 @@
 use Rattle.std.proofs.Common.{◌++◌, refl, sym, ap}
 use Rattle.dots_history.specs.declared.change.Change.TheVariants as change
-use Rattle.dots_ledger.proofs.Answering.{ok_as, err_as}
+use Rattle.dots_registry.proofs.Answering.{ok_as, err_as}
 use Rattle.dots_server.specs.Signals.{with_turn, lapsed_at}
 use Rattle.dots_server.proofs.LostSignals.{is_loss_lost}
 use Rattle.dots_server.proofs.Meeting.{nothing_kept, one_kept, one_broke}

@@ -1,10 +1,10 @@
 use Rattle.std.proofs.Common.{refl, sym, ap, subst}
 use Rattle.dots_history.specs.declared.change.Change.TheVariants as change
-use Rattle.dots_ledger.proofs.Answering.{ok_as, err_as}
+use Rattle.dots_registry.proofs.Answering.{ok_as, err_as}
 use Rattle.dots_server.specs.ServerValues.{ServerValue, IsKept}
-use Rattle.dots_server.specs.Sessions.{as_heard, met}
+use Rattle.dots_server.specs.HearingPeers.{as_heard, met}
 use Rattle.dots_server.specs.Signals.{returned}
-use Rattle.dots_server.proofs.Sessions.{heard_kept}
+use Rattle.dots_server.proofs.HearingPeers.{heard_kept}
 use Rattle.dots_server.proofs.LostSignals.{is_loss_back}
 use Rattle.dots_server.proofs.Meeting.{met_is, nothing_kept, one_kept, one_broke}
 use Rattle.dots_server.proofs.server.Server.meet.Goals as goal

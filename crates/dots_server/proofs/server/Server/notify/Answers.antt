@@ -1,7 +1,7 @@
 use Rattle.std.proofs.Common.{sym, subst}
 use Rattle.coap_observe.specs.DueAmong.{AreNotified}
 use Rattle.dots_machine.specs.Machine.{State}
-use Rattle.dots_notices.specs.Notifying.{Notifies, IsKnown, OnlyUnheardAreDue}
+use Rattle.session_core.specs.Notifying.{Notifies, IsKnown, OnlyUnheardAreDue}
 use Rattle.dots_registry.specs.RegistryValues.{RegistryValue}
 use Rattle.dots_registry.specs.ObserverViews.{views_of}
 use Rattle.dots_server.specs.Observing.{bodies_of}

@@ -1,6 +1,6 @@
 use Rattle.std.proofs.Common.{sym, ap, ◌∙◌, subst}
 use Rattle.coap_observe.specs.Observing.{registered}
-use Rattle.dots_notices.specs.declared.watch.Watch.{Watch}
+use Rattle.session_core.specs.declared.watch.Watch.{Watch}
 use Rattle.dots_registry.specs.ObserverViews.{views_of}
 use Rattle.dots_machine.specs.declared.watching.Watching.TheVariants as watching
 use Rattle.dots_server.specs.ServerValues.{ServerValue, IsServing}

@@ -3,8 +3,8 @@ use Rattle.dots_host.specs.Runs.{Added}
 use Rattle.stream_table.specs.declared.refused.Refused.{Refused}
 use Rattle.stream_table.specs.Lines.{PeerLines, opened, opening}
 use Rattle.dots_machine.specs.Machine.{turned_away}
-use Rattle.dots_notices.specs.Notifying.{SentTo}
-use Rattle.dots_notices.proofs.Sends.{sent_none}
+use Rattle.session_core.specs.Notifying.{SentTo}
+use Rattle.session_core.proofs.Sends.{sent_none}
 use Rattle.dots_server.specs.ServerValues.{ServerValue, IsServing}
 use Rattle.dots_server.proofs.Connecting.{with_lines, opened_lives}
 use Rattle.dots_server.proofs.server.Server.open_connection.Goals as goal

@@ -1,6 +1,6 @@
 use Rattle.std.proofs.Common.{◌||◌, ◌∙◌, ap}
 use Rattle.dots_settings.specs.Lookups.{role_of}
-use Rattle.dots_laws.specs.Calm.{is_client_of}
+use Rattle.dots_history.specs.Calm.{is_client_of}
 use Rattle.dots_machine.specs.declared.client_request.ClientRequest.{ClientRequest}
 use Rattle.dots_machine.specs.declared.verdict.Verdict.TheVariants as verdict
 use Rattle.dots_machine.specs.Deciding.{with_mid, put_in, put_for}

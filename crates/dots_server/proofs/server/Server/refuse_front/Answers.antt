@@ -1,8 +1,8 @@
 use Rattle.std.proofs.Common.{List, ℕ, [], ◌∷◌, subst}
 use Rattle.dots_host.specs.declared.out.OwnedOut.TheVariants as owned
 use Rattle.dots_host.specs.Runs.{Added}
-use Rattle.dots_notices.specs.Notifying.{SentTo}
-use Rattle.dots_notices.proofs.Sends.{sent_then, keeps_then}
+use Rattle.session_core.specs.Notifying.{SentTo}
+use Rattle.session_core.proofs.Sends.{sent_then, keeps_then}
 use Rattle.dots_server.proofs.server.Server.refuse_front.Goals as goal
 
 pub returns-clause-sent : goal.returns-clause-sent

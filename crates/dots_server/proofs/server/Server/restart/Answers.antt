@@ -1,9 +1,10 @@
-use Rattle.std.proofs.Common.{◌≤◌, ap, ◌∙◌, subst}
+use Rattle.std.proofs.Common.{◌≡◌, ◌≤◌, ap, ◌∙◌, subst}
 use Rattle.slot_store.specs.Layout.{needed_of}
 use Rattle.slot_store.proofs.OpenLemmas.{if_ok_as, if_err_as}
 use Rattle.slot_journal.specs.Sizes.{slots_of}
-use Rattle.dots_ledger.proofs.Answering.{ok_as}
-use Rattle.dots_server.proofs.Beginning.{restart_moments, restart_fails, restart_found}
+use Rattle.dots_registry.proofs.Answering.{ok_as}
+use Rattle.dots_server.specs.ServerValues.{ServerValue}
+use Rattle.dots_server.proofs.Beginning.{restart_moments, restart_fails, restart_sized, restart_found}
 use Rattle.dots_server.proofs.server.Server.restart.Goals as goal
 
 pub returns-clause-restarted : goal.returns-clause-restarted
@@ -34,3 +35,8 @@ returns-clause-found g c =
     restart_fails settings c.into_settings.result (c.into_settings.ensures ∙ kept.represents.represents.settings_are) c.args.self state entries kept (g.H.Disk.media c.args.host.now) (g.H.Disk.media c.begin.new.host) rests
     (g.H.Disk.extent c.args.host.now) fault size refused)
     c.begin.ensures.refused
+
+pub returns-clause-sized : goal.returns-clause-sized
+returns-clause-sized g c =
+    let slots = subst (λ (server : ServerValue). server.journal.slots ≡ slots_of server.settings) c.self.view_is c.self.invariant.represents.slots in
+    if_err_as c.begin.result _ _ (λ fault small large. restart_sized c.into_settings.result c.args.self (g.H.Disk.extent c.args.host.now) fault c.into_settings.ensures slots small large) c.begin.ensures.small

@@ -1,15 +1,15 @@
 use Rattle.std.proofs.Common.{sym, ap, ◌∙◌, subst}
 use Rattle.dots_host.specs.Runs.{Added}
-use Rattle.dots_notices.specs.Notifying.{SentTo}
-use Rattle.dots_notices.specs.Beats.{beats}
+use Rattle.session_core.specs.Notifying.{SentTo}
+use Rattle.session_core.specs.Beats.{beats}
 use Rattle.dots_registry.specs.RegistryValues.{time_of}
 use Rattle.dots_machine.specs.Machine.{beating}
 use Rattle.dots_server.specs.ServerValues.{ServerValue, Represents}
 use Rattle.session_core.specs.Beating.{Agrees}
 use Rattle.session_core.specs.Contacts.{number_of}
-use Rattle.dots_notices.proofs.Unheard.{beaten_unheard}
-use Rattle.dots_server.specs.Sessions.{SaysBeat}
-use Rattle.dots_server.proofs.Sessions.{agrees, beaten_lives}
+use Rattle.session_core.proofs.Unheard.{beaten_unheard}
+use Rattle.dots_server.specs.HearingPeers.{SaysBeat}
+use Rattle.dots_server.proofs.HearingPeers.{agrees, beaten_lives}
 use Rattle.dots_server.proofs.server.Server.send_heartbeats.Goals as goal
 
 pub invariant_of-self : goal.invariant_of-self

@@ -1,6 +1,6 @@
 use Rattle.std.proofs.Common.{◌≡◌, true, sym, subst}
 use Rattle.dots_settings.specs.Lookups.{role_of}
-use Rattle.dots_laws.specs.Calm.{may_act}
+use Rattle.dots_history.specs.Calm.{may_act}
 use Rattle.dots_server.specs.Observing.{MayObserve}
 use Rattle.dots_server.specs.ServerValues.{ServerValue}
 use Rattle.dots_server.proofs.Watching.{may_observe}

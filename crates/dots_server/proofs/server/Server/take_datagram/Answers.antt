@@ -1,9 +1,9 @@
 use Rattle.std.proofs.Common.{sym, subst}
-use Rattle.dots_ledger.proofs.Answering.{ok_as, err_as}
+use Rattle.dots_registry.proofs.Answering.{ok_as, err_as}
 use Rattle.dots_machine.specs.Machine.{Hears}
 use Rattle.dots_server.specs.Asking.{IsCome}
-use Rattle.dots_server.specs.Sessions.{met}
-use Rattle.dots_server.proofs.Sessions.{came_heard}
+use Rattle.dots_server.specs.HearingPeers.{met}
+use Rattle.dots_server.proofs.HearingPeers.{came_heard}
 use Rattle.dots_server.proofs.EventTurns.{met_grows, datagram_taken, datagram_failed, meeting_failed}
 use Rattle.dots_server.proofs.server.Server.take_datagram.Goals as goal
 

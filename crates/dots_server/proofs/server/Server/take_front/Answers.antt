@@ -3,7 +3,7 @@ use Rattle.dots_host.proofs.RunLemmas.{added_none}
 use Rattle.slot_store.specs.Layout.{needed_of}
 use Rattle.stream_table.specs.Places.{buffered_by, with_more}
 use Rattle.dots_machine.specs.Machine.{receiving}
-use Rattle.dots_ledger.proofs.Answering.{err_of}
+use Rattle.dots_registry.proofs.Answering.{err_of}
 use Rattle.dots_server.specs.ServerValues.{ServerValue}
 use Rattle.dots_server.proofs.Rows.{still_at, bytes_more}
 use Rattle.dots_server.proofs.Fronts.{is_answered, is_resting, all_held, rests_nowhere, held_kept, piece_rests, piece_answered, piece_broke}

@@ -1,7 +1,7 @@
 use Rattle.std.proofs.Common.{◌≤◌, ℕ, List, length, drop, arith, refl, sym, ◌∙◌, subst}
 use Rattle.dots_host.proofs.RunLemmas.{added_none}
 use Rattle.slot_store.specs.Layout.{needed_of}
-use Rattle.dots_ledger.proofs.Answering.{err_of}
+use Rattle.dots_registry.proofs.Answering.{err_of}
 use Rattle.dots_server.specs.Pieces.{TurnsTaken}
 use Rattle.dots_server.proofs.Following.{added_on}
 use Rattle.dots_server.proofs.Rows.{fewer_left}

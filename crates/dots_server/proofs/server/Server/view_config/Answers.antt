@@ -2,17 +2,17 @@ use Rattle.std.proofs.Common.{◌≡◌, true, option_map, List, sym, ap, ◌∙
 use Rattle.dots_settings.specs.Lookups.{role_of}
 use Rattle.dots_history.specs.declared.entry.Entry.{Entry}
 use Rattle.dots_history.specs.Histories.{held}
-use Rattle.dots_laws.specs.Calm.{may_configure}
-use Rattle.dots_laws.specs.Held.{config_of}
+use Rattle.dots_history.specs.Calm.{may_configure}
+use Rattle.dots_history.specs.Held.{config_of}
 use Rattle.held_resources.specs.Tables.{config_now}
 use Rattle.dots_registry.specs.RegistryValues.{time_of}
 use Rattle.dots_registry.specs.RegistryValues as registry
 use Rattle.dots_machine.specs.declared.verdict.Verdict.TheVariants as verdict
 use Rattle.dots_machine.specs.Replies.{configuration_reply}
-use Rattle.dots_machine.specs.Sessions.{configured_in}
+use Rattle.dots_machine.specs.ConfiguredPeers.{configured_in}
 use Rattle.dots_server.specs.ServerValues.{ServerValue, Represents}
-use Rattle.dots_server.specs.Sessions.{is_wanted}
-use Rattle.dots_server.proofs.Sessions.{configured_here, view_shown, view_absent}
+use Rattle.dots_server.specs.HearingPeers.{is_wanted}
+use Rattle.dots_server.proofs.HearingPeers.{configured_here, view_shown, view_absent}
 use Rattle.dots_server.proofs.server.Server.view_config.Goals as goal
 
 pub returns-then-is_wanted-clause-decides : goal.returns-then-is_wanted-clause-decides

@@ -4,8 +4,8 @@ use Rattle.dots_settings.specs.declared.peer.Role.TheVariants as role
 use Rattle.dots_settings.specs.Settings.{IsSettings}
 use Rattle.dots_settings.specs.Lookups.{role_of}
 use Rattle.dots_history.specs.Histories.{held}
-use Rattle.dots_laws.specs.Held.{is_lost_of}
-use Rattle.dots_laws.specs.HistoryReading.{is_waiting}
+use Rattle.dots_history.specs.Held.{is_lost_of}
+use Rattle.dots_history.specs.HistoryReading.{is_waiting}
 use Rattle.dots_registry.specs.RegistryValues.{time_of}
 use Rattle.dots_machine.specs.Signals.{own_domain}
 use Rattle.dots_server.specs.ServerValues.{ServerValue, Represents}

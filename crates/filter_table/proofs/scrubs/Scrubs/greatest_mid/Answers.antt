@@ -1,10 +1,10 @@
 use Rattle.std.proofs.Common.{◌≡◌, List, Option, map, filter, ap, sym, subst, ◌∙◌}
 use Rattle.std.specs.List.{AllByRecursion}
-use Rattle.filter_rows.specs.declared.rows.ScrubRow.{ScrubRow}
-use Rattle.filter_rows.specs.Fates.{scrubbing_mid}
-use Rattle.prefix_ranks.specs.declared.rank.Rank.{Rank}
-use Rattle.prefix_ranks.specs.Ranks.{slot_of}
-use Rattle.prefix_ranks.specs.Covers.{covers, IsShort, CoveringValue}
+use Rattle.acl_lists.specs.declared.rows.ScrubRow.{ScrubRow}
+use Rattle.acl_lists.specs.Fates.{scrubbing_mid}
+use Rattle.filter_table.specs.declared.rank.Rank.{Rank}
+use Rattle.filter_table.specs.Ranks.{slot_of}
+use Rattle.filter_table.specs.Covers.{covers, IsShort, CoveringValue}
 use Rattle.filter_table.specs.TableRows.{ScrubsValue, row_of_scrub}
 use Rattle.filter_table.specs.Rows.{gathered}
 use Rattle.filter_table.specs.Best.{best, mid_in}

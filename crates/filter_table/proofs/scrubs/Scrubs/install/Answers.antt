@@ -1,7 +1,7 @@
 use Rattle.std.proofs.Common.{arith, ◌≡◌, ◌<◌, nat_le, length, ap, sym, subst, ◌∙◌, None}
 use Rattle.std.specs.List.{insert, prefix_len}
-use Rattle.prefix_ranks.specs.declared.rank.Rank.{Rank}
-use Rattle.prefix_ranks.specs.Ranks.{with_rank}
+use Rattle.filter_table.specs.declared.rank.Rank.{Rank}
+use Rattle.filter_table.specs.Ranks.{with_rank}
 use Rattle.filter_table.specs.declared.turn.Turn.{Turn}
 use Rattle.filter_table.specs.TableRows.{ScrubsValue, scrub_in, with_scrub, rank_of}
 use Rattle.filter_table.specs.Rows.{gathered, mark_of}

@@ -1,5 +1,5 @@
 use Rattle.std.proofs.Common.{arith, ◌≡◌, ◌+◌, ◌≤◌, List, length, ap, sym, subst, ◌∙◌}
-use Rattle.prefix_ranks.specs.Ranks.{RankingValue}
+use Rattle.filter_table.specs.Ranks.{RankingValue}
 use Rattle.filter_table.specs.TableRows.{ScrubsValue, rank_of, AreInstalled}
 use Rattle.filter_table.specs.Rows.{gathered, mark_of}
 use Rattle.filter_table.proofs.Stored.{ranks_fit, few_placed, ranked_at_once}

@@ -1,6 +1,6 @@
 use Rattle.std.proofs.Common.{arith, ◌≡◌, ◌<◌, ◌≤◌, List, filter, length, ap, sym, subst, ◌∙◌}
 use Rattle.std.specs.List.{AllByRecursion}
-use Rattle.prefix_ranks.specs.Sifting.{is_between}
+use Rattle.filter_table.specs.Sifting.{is_between}
 use Rattle.filter_table.specs.declared.turn.Turn.{Turn}
 use Rattle.filter_table.specs.TableRows.{ScrubsValue}
 use Rattle.filter_table.specs.Laws.{AreInOrder}

@@ -1,9 +1,9 @@
 use Rattle.std.proofs.Common.{◌≡◌, List, Option, Some, None, map, subst, sym, ap, ◌∙◌}
 use Rattle.std.specs.List.{find, position}
 use Rattle.std.specs.Option.{IfSome}
-use Rattle.filter_rows.specs.declared.rows.ScrubRow.{ScrubRow}
-use Rattle.prefix_ranks.specs.declared.rank.Rank.{Rank}
-use Rattle.prefix_ranks.specs.Ranks.{ranked}
+use Rattle.acl_lists.specs.declared.rows.ScrubRow.{ScrubRow}
+use Rattle.filter_table.specs.declared.rank.Rank.{Rank}
+use Rattle.filter_table.specs.Ranks.{ranked}
 use Rattle.filter_table.specs.TableRows.{ScrubsValue, without_mitigation}
 use Rattle.filter_table.specs.Laws.{AreInOrder}
 use Rattle.filter_table.specs.Rows.{gathered, place_of_turn, slot_is_of, mark_of, marks_of, is_turn}

@@ -1,6 +1,6 @@
 use Rattle.std.proofs.Common.{arith, ◌≡◌, List, Option, length, map, ap, sym, subst, ◌∙◌}
-use Rattle.filter_rows.specs.declared.rows.ScrubRow.{ScrubRow}
-use Rattle.prefix_ranks.specs.Ranks.{RankingValue, ranked}
+use Rattle.acl_lists.specs.declared.rows.ScrubRow.{ScrubRow}
+use Rattle.filter_table.specs.Ranks.{RankingValue, ranked}
 use Rattle.filter_table.specs.declared.turn.Turn.{Turn}
 use Rattle.filter_table.specs.TableRows.{ScrubsValue, rank_of, renumbered, place_of_scrub, scrub_at_place}
 use Rattle.filter_table.specs.Rows.{gathered, place_of_turn, turn_at_place, mark_of}

@@ -1,5 +1,5 @@
 use Rattle.std.proofs.Common.{◌≡◌, None, IsSome, option_map, List, Option, ap, sym, subst, ◌∙◌}
-use Rattle.filter_rows.specs.declared.rows.ScrubRow.{ScrubRow}
+use Rattle.acl_lists.specs.declared.rows.ScrubRow.{ScrubRow}
 use Rattle.filter_table.specs.TableRows.{ScrubsValue, scrub_in, row_of_scrub}
 use Rattle.filter_table.specs.Rows.{in_slot, gathered}
 use Rattle.filter_table.proofs.Gathered.{scrub_here, some_mapped}

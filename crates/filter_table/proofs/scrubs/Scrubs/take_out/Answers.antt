@@ -1,7 +1,7 @@
 use Rattle.std.proofs.Common.{arith, ◌≡◌, ◌<◌, length, get_or, remove, ap, sym, subst, ◌∙◌, Some, None}
-use Rattle.prefix_ranks.specs.declared.rank.Rank.{Rank}
-use Rattle.prefix_ranks.specs.Ranks.{place_of}
-use Rattle.prefix_ranks.proofs.Each.{each_at}
+use Rattle.filter_table.specs.declared.rank.Rank.{Rank}
+use Rattle.filter_table.specs.Ranks.{place_of}
+use Rattle.filter_table.proofs.Each.{each_at}
 use Rattle.filter_table.specs.TableRows.{ScrubsValue, rank_of}
 use Rattle.filter_table.specs.Rows.{gathered, mark_of, IsTied}
 use Rattle.filter_table.proofs.Gathered.{length-gathered, scrub_of, turn_read, slot_there}

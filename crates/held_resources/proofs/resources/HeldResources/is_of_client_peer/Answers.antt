@@ -1,6 +1,6 @@
 use Rattle.std.proofs.Common.{ap, ◌∙◌, sym}
 use Rattle.std.specs.List.{list_any}
-use Rattle.dots_laws.specs.Capacities.{loses_as}
+use Rattle.dots_history.specs.Capacities.{loses_as}
 use Rattle.held_resources.specs.declared.signals.Signal.{Signal}
 use Rattle.held_resources.specs.Tables.{Tables, own_of}
 use Rattle.held_resources.proofs.Losses.{any_own}

@@ -1,6 +1,6 @@
 use Rattle.std.proofs.Common.{ap, ◌∙◌, map}
 use Rattle.std.specs.List.{flat_map}
-use Rattle.dots_laws.specs.Calm.{loser_of}
+use Rattle.dots_history.specs.Calm.{loser_of}
 use Rattle.held_resources.specs.Tables.{no_configuration, no_loss, rooms_of}
 use Rattle.held_resources.proofs.HistoryTables.{represents_first, sizes_first}
 use Rattle.held_resources.proofs.resources.HeldResources.new.Goals as goal

@@ -1,7 +1,7 @@
 use Rattle.std.proofs.Common.{ap, ◌∙◌, sym, length}
 use Rattle.dots_history.specs.Histories.{held}
 use Rattle.held_resources.specs.Numbers.{number_of}
-use Rattle.dots_laws.proofs.Written.{number_of_aliases, number_of_acls}
+use Rattle.dots_history.proofs.Written.{number_of_aliases, number_of_acls}
 use Rattle.held_resources.proofs.HistoryTables.{number_is}
 use Rattle.held_resources.proofs.resources.HeldResources.number_of.Goals as goal
 

@@ -1,7 +1,7 @@
 use Rattle.std.proofs.Common.{arith, ◌≡◌, ◌++◌, List, length, map, ap, ◌∙◌}
 use Rattle.std.proofs.lemmas.List.{length-map}
 use Rattle.filter_table.specs.TableRows.{row_set}
-use Rattle.filter_rows.specs.declared.rows.ScrubRow.{ScrubRow}
+use Rattle.acl_lists.specs.declared.rows.ScrubRow.{ScrubRow}
 use Rattle.installed_filters.specs.Filters.{with_rows}
 use Rattle.installed_filters.proofs.filters.InstalledFilters.install_all.Goals as goal
 

@@ -1,6 +1,6 @@
 use Rattle.std.proofs.Common.{length, ap, sym, ◌∙◌, arith}
-use Rattle.dots_laws.specs.Filed.{Filed}
-use Rattle.dots_laws.specs.Views.{mitigations_at}
+use Rattle.dots_history.specs.Filed.{Filed}
+use Rattle.dots_history.specs.Views.{mitigations_at}
 use Rattle.live_mitigations.specs.Slots.{slots_left}
 use Rattle.live_mitigations.proofs.SlotsOfRows.{as_many_moved}
 use Rattle.live_mitigations.proofs.list.LiveList.note.Goals as goal

@@ -1,8 +1,8 @@
 use Rattle.std.proofs.Common.{◌≡◌, ◌≤◌, ◌++◌, length, ap, sym, subst, ◌∙◌, arith}
 use Rattle.dots_history.specs.declared.entry.Entry.{Entry}
-use Rattle.dots_laws.specs.Filed.{Filed}
-use Rattle.dots_laws.specs.Tables.{bare}
-use Rattle.dots_laws.specs.Views.{mitigations_at, mitigations_with}
+use Rattle.dots_history.specs.Filed.{Filed}
+use Rattle.dots_history.specs.Tables.{bare}
+use Rattle.dots_history.specs.Views.{mitigations_at, mitigations_with}
 use Rattle.live_mitigations.specs.Rows.{LiveTable, of_entry}
 use Rattle.live_mitigations.specs.Slots.{slots_left, slots_first}
 use Rattle.live_mitigations.proofs.Rows.{grown_rows}

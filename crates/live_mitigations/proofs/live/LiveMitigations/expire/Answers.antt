@@ -1,5 +1,5 @@
 use Rattle.std.proofs.Common.{refl, sym, subst}
-use Rattle.dots_laws.specs.Views.{mitigations_at}
+use Rattle.dots_history.specs.Views.{mitigations_at}
 use Rattle.live_mitigations.specs.Rows.{aged}
 use Rattle.live_mitigations.proofs.LiveValues.{changed_to, changed_here, within_tables, changed_own, changed_other, changed_comes, changed_fewer}
 use Rattle.live_mitigations.specs.LiveValues.{SlotsCome}

@@ -1,7 +1,7 @@
 -- what is kept comes to the same histories; there is less of it after each turn
 use Rattle.std.proofs.Common.{◌≡◌, ℕ, false, List}
 use Rattle.dots_history.specs.declared.entry.Entry.{Entry}
-use Rattle.dots_laws.specs.Filed.{Filed}
+use Rattle.dots_history.specs.Filed.{Filed}
 use Rattle.live_mitigations.specs.LiveValues.{ComesTo, SameButRows, SlotsCome, count_live, has_due, rows_for}
 use Rattle.live_mitigations.proofs.live.LiveMitigations.expire_all.Given as goal
 

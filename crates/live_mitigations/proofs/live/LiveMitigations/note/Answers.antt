@@ -1,7 +1,7 @@
 use Rattle.std.proofs.Common.{refl, ap, arith}
-use Rattle.dots_laws.specs.Filed.{Filed}
-use Rattle.dots_laws.specs.Tables.{bare}
-use Rattle.dots_laws.specs.Views.{mitigations_with}
+use Rattle.dots_history.specs.Filed.{Filed}
+use Rattle.dots_history.specs.Tables.{bare}
+use Rattle.dots_history.specs.Views.{mitigations_with}
 use Rattle.live_mitigations.specs.Rows.{noted}
 use Rattle.live_mitigations.specs.LiveValues.{LiveValue}
 use Rattle.live_mitigations.proofs.LiveValues.{changed_to, changed_here, within_tables, changed_own, changed_other, changed_represents, noted_rows, quiet_inside, represents_outside}

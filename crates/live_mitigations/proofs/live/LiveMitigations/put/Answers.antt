@@ -1,6 +1,6 @@
 use Rattle.std.proofs.Common.{refl, ap, arith}
-use Rattle.dots_laws.specs.Tables.{bare}
-use Rattle.dots_laws.specs.Views.{mitigations_with}
+use Rattle.dots_history.specs.Tables.{bare}
+use Rattle.dots_history.specs.Views.{mitigations_with}
 use Rattle.live_mitigations.specs.Rows.{grown}
 use Rattle.live_mitigations.specs.LiveValues.{LiveValue}
 use Rattle.live_mitigations.proofs.LiveValues.{changed_to, changed_here, within_tables, changed_own, changed_other, put_represents}

@@ -1,8 +1,8 @@
 use Rattle.std.proofs.Common.{◌∙◌, ap, sym, subst}
-use Rattle.dots_disk.specs.Becoming.{RestsWith}
-use Rattle.entry_records.specs.Layout.{record_bytes}
+use Rattle.dots_host.specs.Becoming.{RestsWith}
+use Rattle.slot_journal.specs.Layout.{record_bytes}
 use Rattle.slot_journal.specs.DiskEntries.{records_of, Represents}
-use Rattle.slot_journal.proofs.Writing.{leaves_either, rests_second, appended, has_record}
+use Rattle.slot_journal.proofs.WritingLemmas.{leaves_either, rests_second, appended, has_record}
 use Rattle.slot_journal.proofs.journal.Journal.append.Goals as goal
 
 pub returns-clause-moments : goal.returns-clause-moments

@@ -1,10 +1,10 @@
 use Rattle.std.proofs.Common.{ap, sym, subst}
-use Rattle.record_formats.specs.declared.format.Format.TheVariants.{Two}
-use Rattle.dots_disk.specs.Becoming.{RestsWith}
+use Rattle.slot_store.specs.declared.format.Format.TheVariants.{Two}
+use Rattle.dots_host.specs.Becoming.{RestsWith}
 use Rattle.slot_store.specs.Copying.{AreSlots}
 use Rattle.slot_store.specs.StoreValues.{JournalValue}
 use Rattle.slot_journal.specs.DiskEntries.{records_of, Represents}
-use Rattle.slot_journal.proofs.Writing.{leaves_either, rests_second, kept}
+use Rattle.slot_journal.proofs.WritingLemmas.{leaves_either, rests_second, kept}
 use Rattle.slot_journal.proofs.journal.Journal.compact.Goals as goal
 
 pub returns-clause-moments : goal.returns-clause-moments

@@ -1,5 +1,5 @@
 use Rattle.std.proofs.Common.{◌⊎◌, []}
-use Rattle.record_formats.specs.declared.format.Format.TheVariants.{One}
+use Rattle.slot_store.specs.declared.format.Format.TheVariants.{One}
 use Rattle.slot_store.specs.Layout.{IsBlank, IsJournal}
 use Rattle.slot_store.proofs.Steps.{leaves_as}
 use Rattle.slot_journal.specs.Sizes.{slots_of}

@@ -2,7 +2,7 @@ use Rattle.std.proofs.Common.{sym}
 use Rattle.std.proofs.lemmas.Result.{err_from_is_err_and}
 use Rattle.slot_store.proofs.DiskReading.{sees_at_rest}
 use Rattle.slot_journal.specs.DiskEntries.{records_of}
-use Rattle.slot_journal.proofs.Recovering.{recovered, stays, has_opening, has_reading, half_refuses, not_written}
+use Rattle.slot_journal.proofs.Recovering.{recovered, stays, has_opening, has_reading, half_refuses, other_size, not_written}
 use Rattle.slot_journal.proofs.journal.Journal.recover.Goals as goal
 
 pub returns-in_err-store-clause-moments : goal.returns-in_err-store-clause-moments
@@ -12,6 +12,11 @@ pub returns-in_err-store-clause-refused : goal.returns-in_err-store-clause-refus
 returns-in_err-store-clause-refused g c =
     let p = err_from_is_err_and c.from_residual.result c.from_residual.ensures.1 in
     rw (p.1, p.2) c.in_err-store.ensures.refused
+
+pub returns-in_err-store-clause-small : goal.returns-in_err-store-clause-small
+returns-in_err-store-clause-small g c =
+    let p = err_from_is_err_and c.from_residual.result c.from_residual.ensures.1 in
+    rw (p.1, p.2) c.in_err-store.ensures.small
 
 pub returns-in_err-store-clause-unwritten : goal.returns-in_err-store-clause-unwritten
 returns-in_err-store-clause-unwritten g c =
@@ -27,6 +32,11 @@ pub returns-in_err-entries-clause-refused : goal.returns-in_err-entries-clause-r
 returns-in_err-entries-clause-refused g c =
     let p = err_from_is_err_and c.from_residual-in_err-entries.result c.from_residual-in_err-entries.ensures.1 in
     rw (p.1, p.2) (λ seen sees. half_refuses _ c.args.settings.now c.in_ok-store.store (g.D.Disk.extent c.args.disk.now) seen _ c.in_ok-store.ensures.size.0 (c.in_ok-store.ensures.known seen sees) c.in_err-entries.ensures.refused)
+
+pub returns-in_err-entries-clause-small : goal.returns-in_err-entries-clause-small
+returns-in_err-entries-clause-small g c =
+    let p = err_from_is_err_and c.from_residual-in_err-entries.result c.from_residual-in_err-entries.ensures.1 in
+    rw (p.1, p.2) (other_size c.args.settings.now (g.D.Disk.extent c.args.disk.now) _ c.in_err-entries.ensures.sized)
 
 pub returns-in_err-entries-clause-unwritten : goal.returns-in_err-entries-clause-unwritten
 returns-in_err-entries-clause-unwritten g c =

@@ -1,6 +1,6 @@
 use Rattle.std.proofs.Common.{◌∙◌, ap, sym, subst, ◌+◌, ◌%◌, ◌++◌, ◌∷◌, [], ◌<◌, length, arith}
 use Rattle.std.proofs.lemmas.Grind.{elements}
-use Rattle.dots_disk.specs.Becoming.{RestsWith}
+use Rattle.dots_host.specs.Becoming.{RestsWith}
 use Rattle.slot_store.specs.Layout.{place_of}
 use Rattle.slot_store.specs.StoreValues.{JournalValue, RepresentsRecords}
 use Rattle.slot_store.proofs.Storing.{slot_fits, append_leaves, append_rests}

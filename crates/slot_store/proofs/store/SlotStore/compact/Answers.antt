@@ -1,8 +1,8 @@
 use Rattle.std.proofs.Common.{◌∙◌, ap, sym, subst, ℕ, ◌%◌, length, map, arith}
 use Rattle.std.proofs.lemmas.Grind.{elements}
-use Rattle.dots_disk.specs.Becoming.{Leaves, RestsWith}
-use Rattle.record_formats.specs.declared.format.Format.TheVariants.{Two}
-use Rattle.record_formats.specs.Formats.{rewritten}
+use Rattle.dots_host.specs.Becoming.{Leaves, RestsWith}
+use Rattle.slot_store.specs.declared.format.Format.TheVariants.{Two}
+use Rattle.slot_store.specs.Formats.{rewritten}
 use Rattle.slot_store.specs.Opening.{Is}
 use Rattle.slot_store.specs.StoreValues.{RepresentsRecords, JournalValue}
 use Rattle.slot_store.specs.Copying.{IsMoving, IsMoved, kept_of, other_selector}

@@ -3,7 +3,7 @@ use Rattle.std.proofs.lemmas.Result.{err_from_is_err_and}
 use Rattle.slot_store.specs.Layout.{HasRecords}
 use Rattle.slot_store.proofs.Steps.{begins}
 use Rattle.slot_store.proofs.DiskReading.{sees_at_rest, rests_unchanged}
-use Rattle.slot_store.proofs.OpenLemmas.{disk_refuses}
+use Rattle.slot_store.proofs.OpenLemmas.{disk_refuses, other_size}
 use Rattle.slot_store.proofs.Counting.{opened_reads, opened_is_there, opened_in_format, opened_known}
 use Rattle.slot_store.proofs.store.SlotStore.open.Goals as goal
 
@@ -15,6 +15,7 @@ returns-then-found-needed g c = record {
   size = tt;
   known = tt;
   refused = λ seen sees. (c.needed_of-needed.ensures, c.size-found.ensures, c.if-found-needed.true);
+  small = (c.needed_of-needed.ensures, c.size-found.ensures, c.if-found-needed.true);
   unwritten = λ seen other rests. rests;
   extent = refl;
   cause = refl;
@@ -29,6 +30,7 @@ returns-in_default g c = record {
   size = tt;
   known = tt;
   refused = λ seen sees. tt;
+  small = tt;
   unwritten = λ seen other rests. rests;
   extent = refl;
   cause = refl;
@@ -45,6 +47,7 @@ returns-in_err-in_use g c =
       size = rw p.1 tt;
       known = rw p.1 tt;
       refused = rw (p.1, p.2) (λ seen sees. disk_refuses c.args.slots c.args.digest.now (g.D.Disk.extent c.args.disk.now) seen _ (c.in_err-in_use.ensures.refused seen sees));
+      small = rw (p.1, p.2) (other_size c.args.slots (g.D.Disk.extent c.args.disk.now) _ c.in_err-in_use.ensures.sized);
       unwritten = rw (p.1, p.2) c.in_err-in_use.ensures.unwritten;
       extent = c.in_err-in_use.ensures.extent;
       cause = rw (p.1, p.2) c.in_err-in_use.ensures.cause;
@@ -64,6 +67,7 @@ returns-in_err-used g c =
       size = rw p.1 tt;
       known = rw p.1 tt;
       refused = rw (p.1, p.2, c.in_err-used.ensures.fault) (λ seen sees. tt);
+      small = rw (p.1, p.2, c.in_err-used.ensures.fault) tt;
       unwritten = rw (p.1, p.2, c.in_err-used.ensures.fault) (λ seen other rests. absurd (other refl));
       extent = c.in_err-used.ensures.extent ∙ c.in_ok-in_use.ensures.extent;
       cause = rw (p.1, p.2, c.in_err-used.ensures.fault) (omega (arith, same, rose));
@@ -86,6 +90,7 @@ returns g c =
       known = λ seen sees.
           rests_unchanged _ _ _ c.in_ok-used.ensures.keeps (opened_known _ c.args.slots c.args.digest.now seen c.in_ok-in_use.in_use.selector c.in_ok-in_use.in_use.format c.in_ok-used.used (c.in_ok-in_use.ensures.opened seen sees) c.in_ok-used.ensures.count);
       refused = tt;
+      small = tt;
       unwritten = tt;
       extent = extent;
       cause = c.in_ok-used.ensures.cause ∙ c.in_ok-in_use.ensures.cause;

@@ -1,5 +1,5 @@
 use Rattle.std.proofs.Common.{[], ◌∙◌, sym, ap, subst}
-use Rattle.dots_disk.specs.Media.{byte_of}
+use Rattle.dots_host.specs.Media.{byte_of}
 use Rattle.gateway_agent.specs.Passing.{opened}
 use Rattle.gateway_agent.specs.Keeping as keeping
 use Rattle.world_play.specs.Parties.{upstream_for}

@@ -6,7 +6,7 @@ use Rattle.std.proofs.lemmas.List.{take_all}
 use Rattle.std.proofs.lemmas.Result.{on_ok_weaker}
 use Rattle.dots_host.specs.declared.event.Event.TheVariants as event
 use Rattle.dots_host.specs.Memory.{told}
-use Rattle.dots_disk.specs.Stored.{media_of}
+use Rattle.dots_host.specs.Stored.{media_of}
 use Rattle.gateway_agent.specs.Passing.{GatewayState}
 use Rattle.gateway_agent.specs.Turning.{Took}
 use Rattle.world_play.specs.Passing.{agent_of, IsIn}

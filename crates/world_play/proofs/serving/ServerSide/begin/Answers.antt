@@ -1,5 +1,5 @@
 use Rattle.std.proofs.Common.{[]}
-use Rattle.dots_disk.specs.Media.{byte_of}
+use Rattle.dots_host.specs.Media.{byte_of}
 use Rattle.world_play.proofs.Blank.{zeros_seen, nothing_held}
 use Rattle.world_play.proofs.Servers.{begun_in}
 use Rattle.world_play.proofs.serving.ServerSide.begin.Goals as goal

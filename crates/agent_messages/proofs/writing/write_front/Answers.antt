@@ -1,6 +1,0 @@
-use Rattle.std.proofs.Common.{refl, arith}
-use Rattle.agent_messages.proofs.Behind.{is_valid}
-use Rattle.agent_messages.proofs.writing.write_front.Goals as goal
-
-pub encoded_len-requires : goal.encoded_len-requires
-encoded_len-requires c = is_valid _ c.parts.ensures.are (omega arith) c.requires refl

@@ -1,4 +1,0 @@
-pub mod Options
-pub mod Requests
-pub mod Grants
-pub mod Asked

@@ -1,4 +1,0 @@
-mod Numbers
-mod Lists
-mod Steps
-mod Within

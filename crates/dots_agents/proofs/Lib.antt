@@ -1,4 +1,0 @@
-pub mod Sends
-mod Turning
-pub mod Until
-pub mod Wrote

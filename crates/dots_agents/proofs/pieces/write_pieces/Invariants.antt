@@ -1,5 +1,0 @@
-use Rattle.dots_agents.proofs.Wrote.{Begun}
-use Rattle.dots_agents.proofs.pieces.write_pieces.Given as goal
-
-abbrev pub invariant-loop-piece : goal.invariant-loop-piece
-invariant-loop-piece g l = Begun (λ piece. piece.now) l.pieces l.piece-index (g.K.Sink.holds l.fn.sink) (g.K.Sink.faults l.fn.sink) (g.K.Sink.holds l.sink) (g.K.Sink.faults l.sink)

@@ -1,5 +1,0 @@
-use Rattle.dots_agents.proofs.Sends.{handed_one}
-use Rattle.dots_agents.proofs.sending.send_to.Goals as goal
-
-pub returns-clause-handed : goal.returns-clause-handed
-returns-clause-handed g c = handed_one _ _ _ _ _ _ c.send-sent.ensures.acts

@@ -1,5 +1,0 @@
-pub mod ContentLemmas
-pub mod DiskLemmas
-pub mod WrittenLemmas
-pub mod LoggedLemmas
-pub mod Walks

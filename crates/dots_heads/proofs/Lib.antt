@@ -1,3 +1,0 @@
-pub mod Identifiers
-pub mod PathLaws
-pub mod WithoutMemory

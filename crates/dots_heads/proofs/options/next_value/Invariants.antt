@@ -1,6 +1,0 @@
-use Rattle.std.proofs.Common.{◌≡◌}
-use Rattle.dots_heads.specs.Options.{values_of}
-use Rattle.dots_heads.proofs.options.next_value.Given as goal
-
-abbrev pub invariant-loop-row : goal.invariant-loop-row
-invariant-loop-row l = record { rest : values_of l.number l.options ≡ values_of l.number l.fn.options }

@@ -1,0 +1,13 @@
+-- those counted and those of the rest are all
+use Rattle.std.proofs.Common.{◌≡◌, ◌+◌, ◌≤◌, drop}
+use Rattle.std.specs.Prelude.{◌&&◌}
+use Rattle.dots_history.specs.declared.entry.Entry.{Entry}
+use Rattle.dots_history.specs.Histories.{tally, held}
+use Rattle.dots_history.specs.Capacities.{is_alias}
+use Rattle.dots_history.specs.Entries.{same_client}
+use Rattle.dots_history.proofs.admission.aliases.Given as goal
+
+abbrev pub invariant-loop-place : goal.invariant-loop-place
+invariant-loop-place l =
+    (l.count ≤ l.place)
+    × (l.count + tally (λ (x : Entry). is_alias x.change && same_client l.entry x) (held (drop l.place l.with)) ≡ tally (λ (x : Entry). is_alias x.change && same_client l.entry x) (held l.with))

@@ -1,6 +1,0 @@
-use Rattle.std.proofs.Common.{arith}
-use Rattle.std.proofs.lemmas.List.{drop_more, take_all, length-drop}
-use Rattle.dots_laws.proofs.admission.aliases.Goals as goal
-
-pub loop-place-preserved : goal.loop-place-preserved
-loop-place-preserved c = (grind arith, grind (arith, drop_more, take_all, length-drop))

@@ -1,5 +1,0 @@
-use Rattle.dots_laws.proofs.CalmCuts.{one_registration}
-use Rattle.dots_laws.proofs.calm.clients_register_once.Goals as goal
-
-pub returns : goal.returns
-returns c = one_registration

@@ -1,5 +1,0 @@
-use Rattle.dots_laws.proofs.Composing.{kept_refl, kept_trans, kept_later, kept_more}
-use Rattle.dots_laws.proofs.laws.keeping_composes.Goals as goal
-
-pub returns : goal.returns
-returns c = record { itself = kept_refl; twice = kept_trans; later = kept_later; appended = kept_more }

@@ -1,5 +1,0 @@
-use Rattle.dots_laws.proofs.HistoryReading.{read_of_view}
-use Rattle.dots_laws.proofs.laws.views_are_read.Goals as goal
-
-pub returns : goal.returns
-returns c = read_of_view

@@ -1,5 +1,0 @@
-use Rattle.dots_laws.proofs.Single.{of_itself, is_of_client, client_is_of}
-use Rattle.dots_laws.proofs.tables.clients_are_values.Goals as goal
-
-pub returns : goal.returns
-returns c = record { same = of_itself; of = is_of_client; own = client_is_of }

@@ -1,3 +1,0 @@
-pub mod LedgerValues
-pub mod Crashes
-pub mod Beginning

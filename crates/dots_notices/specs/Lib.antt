@@ -1,3 +1,0 @@
-pub mod Beats
-pub mod Notices
-pub mod Notifying

@@ -1,6 +1,0 @@
-use Rattle.std.proofs.Common.{arith}
-use Rattle.entry_records.proofs.Writings.{bytes_are}
-use Rattle.entry_records.proofs.writer.Writer.bytes.Goals as goal
-
-pub returns-clause-typed : goal.returns-clause-typed
-returns-clause-typed c = bytes_are c.args.bytes.now (λ i. omega (arith, c.type_inv.bytes i))

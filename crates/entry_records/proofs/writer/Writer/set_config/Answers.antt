@@ -1,5 +1,0 @@
-use Rattle.entry_records.proofs.Writings.{both}
-use Rattle.entry_records.proofs.writer.Writer.set_config.Goals as goal
-
-pub returns-clause-written : goal.returns-clause-written
-returns-clause-written c = both c.u32.ensures.written c.config.ensures

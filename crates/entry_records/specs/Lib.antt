@@ -1,6 +1,0 @@
-pub mod Values
-pub mod Layout
-pub mod Records
-pub mod FaultText
-pub mod RecordReading
-pub mod Writing

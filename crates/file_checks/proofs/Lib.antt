@@ -1,3 +1,0 @@
-pub mod Wholes
-pub mod Passing
-pub mod Counting

@@ -1,5 +1,0 @@
-use Rattle.file_checks.proofs.Counting.{one_more}
-use Rattle.file_checks.proofs.summary.add_domain.Goals as goal
-
-pub returns-in-Ok : goal.returns-in-Ok
-returns-in-Ok c = λ front before. one_more _ _ _ _ _ _ front c.domain_name-name.ensures.value c.prefixes-prefixes.ensures.value c.in-Ok.ensures before

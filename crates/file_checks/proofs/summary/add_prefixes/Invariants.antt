@@ -1,6 +1,0 @@
-use Rattle.std.proofs.Common.{◌≡◌, ◌++◌, take, flat_map}
-use Rattle.file_checks.specs.Summary.{prefixes_line}
-use Rattle.file_checks.proofs.summary.add_prefixes.Given as goal
-
-abbrev pub invariant-loop-domain : goal.invariant-loop-domain
-invariant-loop-domain l = record { added : l.text.items ≡ l.fn.text.items ++ flat_map prefixes_line (take l.domain l.settings.domains) }

@@ -1,2 +1,0 @@
-pub mod ReportLines
-pub mod ListLines

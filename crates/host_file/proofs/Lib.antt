@@ -1,4 +1,0 @@
-pub mod Endpoints
-pub mod Numbers
-pub mod ReadTo
-pub mod Views

@@ -1,7 +1,0 @@
-use Rattle.std.proofs.Common.{◌≡◌, map, drop}
-use Rattle.host_file.specs.HostLine.{line_value}
-use Rattle.host_file.specs.Found.{events_in}
-use Rattle.host_file.proofs.found.events_in.Given as goal
-
-abbrev pub invariant-loop-line : goal.invariant-loop-line
-invariant-loop-line l = events_in (map line_value (drop l.line-index l.lines)) ≡ events_in (map line_value l.lines)

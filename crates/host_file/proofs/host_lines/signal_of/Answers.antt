@@ -1,6 +1,0 @@
-use Rattle.plain_text.specs.Lines.{fields_of}
-use Rattle.host_file.proofs.Endpoints.{no_signal}
-use Rattle.host_file.proofs.host_lines.signal_of.Goals as goal
-
-pub returns-in_default : goal.returns-in_default
-returns-in_default c = no_signal c.in_ok-text.text.now (fields_of c.args.fields.now) c.in_ok-text.ensures c.in_default.ensures

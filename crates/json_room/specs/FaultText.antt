@@ -1,8 +1,0 @@
--- What is printed of a fault.
-use Rattle.std.specs.Prelude.{ℕ, List, codes}
-use Rattle.json_room.specs.declared.fault.JsonFault.{JsonFault}
-use Rattle.json_room.specs.declared.fault.JsonFault.TheVariants.{NotJson, NoMemory}
-
-abbrev pub fault_text : JsonFault → List ℕ
-fault_text NotJson = codes "no JSON"
-fault_text NoMemory = codes "out of memory"

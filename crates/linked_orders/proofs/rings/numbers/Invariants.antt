@@ -1,7 +1,0 @@
--- the numbers before the one at hand are there, and room for the others
-use Rattle.std.proofs.Common.{◌≡◌, ◌≤◌, vec_capacity}
-use Rattle.linked_orders.specs.Rings.{numbers_from}
-use Rattle.linked_orders.proofs.rings.numbers.Given as goal
-
-abbrev pub invariant-loop-number : goal.invariant-loop-number
-invariant-loop-number l = (l.numbers.items ≡ numbers_from 0 l.number) × (l.count ≤ vec_capacity l.numbers)

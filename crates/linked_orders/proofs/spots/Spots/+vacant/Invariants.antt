@@ -1,4 +1,0 @@
-use Rattle.linked_orders.proofs.spots.Spots.+vacant.Given as goal
-
-abbrev pub decreases-vacant : goal.decreases-vacant
-decreases-vacant l = l.width

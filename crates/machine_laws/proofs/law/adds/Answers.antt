@@ -1,5 +1,0 @@
-use Rattle.machine_laws.proofs.Adding.{answers_add, step_adds}
-use Rattle.machine_laws.proofs.law.adds.Goals as goal
-
-pub returns : goal.returns
-returns c = record { answers = answers_add; step = step_adds }

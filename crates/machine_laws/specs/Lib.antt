@@ -1,4 +1,0 @@
-pub mod Adding
-pub mod Granting
-pub mod Reading
-pub mod Forwarding

@@ -1,2 +1,0 @@
-pub mod MessageText
-pub mod Printing

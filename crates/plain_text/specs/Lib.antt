@@ -1,3 +1,0 @@
-pub mod HexText
-pub mod Lines
-pub mod Numbers

@@ -1,2 +1,0 @@
-pub mod Triggering
-pub mod Upgrades

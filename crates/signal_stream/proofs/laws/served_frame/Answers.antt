@@ -1,5 +1,0 @@
-use Rattle.signal_stream.proofs.Connections.{served_frame}
-use Rattle.signal_stream.proofs.laws.served_frame.Goals as goal
-
-pub returns-clause-frame : goal.returns-clause-frame
-returns-clause-frame c begun bytes f fits e = served_frame begun bytes f fits e

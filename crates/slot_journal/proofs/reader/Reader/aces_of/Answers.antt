@@ -1,0 +1,22 @@
+use Rattle.std.proofs.Common.{◌+◌, ◌-◌, ◌∙◌, arith}
+use Rattle.std.proofs.lemmas.Result.{err_from_is_err_and}
+use Rattle.slot_journal.specs.RecordReading.{ace_at}
+use Rattle.slot_journal.proofs.Loops.{items_stop, items_go, items_done}
+use Rattle.slot_journal.proofs.reader.Reader.aces_of.Goals as goal
+
+pub returns-in_err-ace-clause-value : goal.returns-in_err-ace-clause-value
+returns-in_err-ace-clause-value c =
+    let p = err_from_is_err_and c.from_residual.result c.from_residual.ensures.1 in
+    rw (p.1, p.2) (items_stop c.in_err-ace.field-0.0 ace_at (c.args.count - c.loop.counter) c.loop.self.end c.loop.aces c.loop.self.rest.now _ (omega (arith, c.loop-test.true)) c.in_err-ace.ensures.value c.loop.invariant.read)
+
+pub loop-preserved : goal.loop-preserved
+loop-preserved c =
+    let go = items_go ace_at (c.args.count - c.loop.counter) (c.args.count - (c.loop.counter + 1)) c.loop.self.end c.loop.aces c.in_ok-ace.ace c.loop.self.rest.now c.ace.new.self.rest.now _
+    (omega (arith, c.loop-test.true)) c.in_ok-ace.ensures.value c.loop.invariant.read in
+    record {
+      read = rw (c.in_ok-ace.ensures.end, c.in_ok-push.ensures.ok) go;
+      end = c.in_ok-ace.ensures.end ∙ c.loop.invariant.end;
+    }
+
+pub returns-clause-value : goal.returns-clause-value
+returns-clause-value c = items_done ace_at (c.args.count - c.loop.counter) c.loop.self.end c.loop.aces c.loop.self.rest.now _ (omega (arith, c.loop-test.false)) c.loop.invariant.read

@@ -1,9 +1,0 @@
-use Rattle.std.proofs.Common.{◌≡◌, length}
-use Rattle.timed_filters.specs.Ends.{left_among}
-use Rattle.timed_filters.proofs.ends.left_among.Given as goal
-
-abbrev pub invariant-loop-view : goal.invariant-loop-view
-invariant-loop-view l = left_among l.mid l.fn.views ≡ left_among l.mid l.views
-
-abbrev pub decreases-loop-view : goal.decreases-loop-view
-decreases-loop-view l = length l.views

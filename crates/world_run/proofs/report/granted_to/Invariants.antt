@@ -1,6 +1,0 @@
-use Rattle.std.proofs.Common.{◌≡◌, take}
-use Rattle.world_run.specs.Report.{granted_to}
-use Rattle.world_run.proofs.report.granted_to.Given as goal
-
-abbrev pub invariant-loop-client : goal.invariant-loop-client
-invariant-loop-client l = record { counted : l.granted ≡ granted_to (take l.client-index l.clients) }
