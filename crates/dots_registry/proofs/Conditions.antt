@@ -20,13 +20,13 @@ use Rattle.live_mitigations.specs.LiveValues.{LiveValue, puts, is_inside, keeps_
 use Rattle.live_mitigations.specs.LiveValues as lives
 use Rattle.live_mitigations.proofs.LiveValues.{quiet_inside}
 use Rattle.live_mitigations.proofs.Room.{has_room_is}
-use Rattle.held_resources.specs.Tables.{sizes_of}
+use Rattle.held_resources.specs.Tables.{Tables, sizes_of}
 use Rattle.held_resources.specs.Accepting.{accepts, keeps_rooms}
 use Rattle.held_resources.proofs.HistoryTables.{accepted_by}
 use Rattle.held_resources.proofs.Lawful.{accepts_own}
 use Rattle.dots_registry.specs.RegistryValues.{RegistryValue, IsOf, Represents, time_of}
-use Rattle.dots_registry.specs.Fitting.{FitsIn, fits_then, fits_now, fits_tables}
-use Rattle.dots_registry.proofs.RegistryValues.{own_inside}
+use Rattle.dots_registry.specs.Fitting.{HasTables, FitsIn, fits_then, fits_now, fits_tables}
+use Rattle.dots_registry.proofs.RegistryValues.{own_below, own_inside}
 
 -- ---- what isn't of a domain
 
@@ -215,11 +215,22 @@ pub possible_inside : (settings : SettingsValue) (registry : RegistryValue) (e :
 possible_inside settings registry e is_of is put =
     own_inside settings registry e is_of (and_parts (within_bounds e) (is_of_settings settings e) is).1 put
 
-pub room_outside : (inside now : RegistryValue) (domains : ℕ) (entries : List Entry) (e : Entry) → inside ≡ now → domains ≡ inside.live.domains → domains ≤ e.domain
-    → (puts e ≡ true → e.domain < now.live.domains) → Represents now entries → true ≡ has_live_room now.live.limits entries e
-room_outside inside now domains entries e same are past within represents =
-    let all : domains ≡ now.live.domains = are ∙ ap (λ (r : RegistryValue). r.live.domains) same in
-    sym (outside_room now.live entries e (omega (arith, past, all)) (false_from_ne_true (puts e) (λ put. let less = within put in omega (arith, less, past, all))) represents.live)
+pub possible_below : (settings : SettingsValue) (domains : ℕ) (e : Entry) → domains ≡ length settings.domains → is_possible settings e ≡ true → puts e ≡ true
+    → e.domain < domains
+possible_below settings domains e are is put =
+    let below = own_below settings e (and_parts (within_bounds e) (is_of_settings settings e) is).1 put in
+    omega (arith, below, are)
+
+pub tables_fit : (registry : RegistryValue) (kept : LiveValue) (things : Tables) (entries : List Entry) (e : Entry) → HasTables registry kept things
+    → (nat_le kept.time e.time && (accepts things.sizes entries e && has_live_room kept.limits entries e)) ≡ fits_tables registry entries e
+tables_fit registry kept things entries e has =
+    ap (λ (l : LiveValue). nat_le l.time e.time && (accepts things.sizes entries e && has_live_room l.limits entries e)) (sym has.live_is)
+    ∙ ap (λ (h : Tables). nat_le registry.live.time e.time && (accepts h.sizes entries e && has_live_room registry.live.limits entries e)) (sym has.held_is)
+
+pub room_outside : (live : LiveValue) (domains : ℕ) (entries : List Entry) (e : Entry) → domains ≡ live.domains → domains ≤ e.domain
+    → (puts e ≡ true → e.domain < live.domains) → lives.Represents live entries → true ≡ has_live_room live.limits entries e
+room_outside live domains entries e are past within represents =
+    sym (outside_room live entries e (omega (arith, past, are)) (false_from_ne_true (puts e) (λ put. let less = within put in omega (arith, less, past, are))) represents)
 
 -- ---- whichever history
 

@@ -45,7 +45,7 @@ law_for inside e entries fits represents =
     let parts = and_parts (within_bounds e) (fits_then fits.settings inside entries e) now in
     (and_parts (nat_le (time_of inside) e.time) (laws.fits fits.settings entries e) parts.1).1
 
-limits_after : (inside : RegistryValue) (e : Entry) (entries : List Entry) → FitsIn inside e → e.time ≡ time_of inside → Represents inside entries
+pub limits_after : (inside : RegistryValue) (e : Entry) (entries : List Entry) → FitsIn inside e → e.time ≡ time_of inside → Represents inside entries
     → KeepsLimits inside.live.limits inside.live.time (entries ++ e ∷ [])
 limits_after inside e entries fits at represents =
     subst

@@ -36,3 +36,5 @@ pub mod Uniting
 pub mod Filed
 pub mod Shrinking
 pub mod Peers
+pub mod Gatherings
+pub mod RowsInTurn

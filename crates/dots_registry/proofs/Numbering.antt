@@ -135,7 +135,7 @@ union_nil (x ∷ []) rises = refl
 union_nil (x ∷ y ∷ ys) rises = ap (placed x) (union_nil (y ∷ ys) rises.1) ∙ placed_first x y ys rises.0
 
 -- ---- entries in the first slots
-entries_from : (slot : ℕ) (entries : List Entry) → map entry_of (filed_from slot entries) ≡ entries
+pub entries_from : (slot : ℕ) (entries : List Entry) → map entry_of (filed_from slot entries) ≡ entries
 entries_from slot [] = refl
 entries_from slot (e ∷ later) = ap (λ es. e ∷ es) (entries_from (slot + 1) later)
 

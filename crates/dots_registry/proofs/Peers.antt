@@ -10,8 +10,7 @@ use Rattle.dots_history.specs.Histories.{Mitigation, live, status, mitigations}
 use Rattle.dots_history.specs.Views.{mitigations_of}
 use Rattle.conflict_rules.specs.ByMid.{collides}
 use Rattle.conflict_rules.specs.Lives.{live_of, lives_of}
-use Rattle.live_mitigations.specs.LiveValues.{is_inside, puts}
-use Rattle.dots_registry.specs.RegistryValues.{RegistryValue, Represents, time_of}
+use Rattle.live_mitigations.specs.LiveValues.{LiveValue, Represents, is_inside, puts}
 use Rattle.dots_registry.specs.Fitting.{has_peer}
 use Rattle.dots_registry.proofs.Conditions.{never_live, inside_or_quiet, out_of_client}
 
@@ -49,12 +48,9 @@ all_of_peer e (m ∷ ms) = by_domain (m.put.domain == e.domain) (all_of_peer e m
         rest
     by_domain false rest = rest
 
-pub peers_inside : (inside now : RegistryValue) (found : Bool) (e : Entry) (entries : List Entry) → inside ≡ now
-    → found ≡ collides (lives_of e.domain (time_of inside) entries) e.peer e.cuid → not found ≡ list_all (has_peer e) (mitigations (time_of now) entries)
-peers_inside inside now found e entries same is =
-    ap not is
-    ∙ ap (λ (r : RegistryValue). not (collides (lives_of e.domain (time_of r) entries) e.peer e.cuid)) same
-    ∙ sym (all_of_peer e (mitigations (time_of now) entries))
+pub peers_inside : (found : Bool) (e : Entry) (t : ℕ) (entries : List Entry) → found ≡ collides (lives_of e.domain t entries) e.peer e.cuid
+    → not found ≡ list_all (has_peer e) (mitigations t entries)
+peers_inside found e t entries is = ap not is ∙ sym (all_of_peer e (mitigations t entries))
 
 -- ---- an entry of no domain
 
@@ -77,8 +73,7 @@ all_outside e t domains (x ∷ later) past all =
           | inr quiet ↦ absurd (false≢true (sym (never_live t x (status x Open later) quiet) ∙ alive))
         ]
 
-pub peers_outside : (inside now : RegistryValue) (domains : ℕ) (e : Entry) (entries : List Entry) → inside ≡ now → domains ≡ inside.live.domains → domains ≤ e.domain
-    → Represents now entries → true ≡ list_all (has_peer e) (mitigations (time_of now) entries)
-peers_outside inside now domains e entries same are past represents =
-    let all : domains ≡ now.live.domains = are ∙ ap (λ (r : RegistryValue). r.live.domains) same in
-    sym (all_outside e (time_of now) now.live.domains entries (omega (arith, past, all)) represents.live.inside)
+pub peers_outside : (live : LiveValue) (domains : ℕ) (e : Entry) (entries : List Entry) → domains ≡ live.domains → domains ≤ e.domain → Represents live entries
+    → true ≡ list_all (has_peer e) (mitigations live.time entries)
+peers_outside live domains e entries are past represents =
+    sym (all_outside e live.time live.domains entries (omega (arith, past, are)) represents.inside)

@@ -15,9 +15,7 @@ use Rattle.dots_history.specs.Calm.{came_rightly}
 use Rattle.dots_history.specs.Fits.{last_or, last_time, fits, joins, is_calm, has_one_peer}
 use Rattle.dots_history.proofs.CalmCuts.{calm_more, calm_parts}
 use Rattle.dots_history.proofs.Composing.{kept_refl}
-use Rattle.dots_registry.specs.Kept.{filed}
-use Rattle.dots_registry.proofs.Numbering.{filed_entries, filed_more}
-use Rattle.dots_history.specs.Filed.{Filed}
+use Rattle.dots_registry.proofs.Numbering.{filed_entries}
 use Rattle.slot_store.specs.Layout.{place_of, needed_of}
 use Rattle.slot_store.proofs.Steps.{rests_as}
 use Rattle.slot_store.specs.StoreValues.{JournalValue}
@@ -30,18 +28,16 @@ use Rattle.slot_journal.specs.Refused.{Refuses, IsSmallBy, Caused}
 use Rattle.slot_journal.proofs.Crashing.{has_not_refused, one_history}
 use Rattle.dots_registry.specs.RegistryValues.{RegistryValue, IsOf, time_of, number_remembered}
 use Rattle.dots_registry.specs.RegistryValues as registry
-use Rattle.dots_registry.specs.Filed.{RepresentsFiled, most_kept}
-use Rattle.dots_registry.specs.Fitting.{FitsIn, fits_now}
+use Rattle.dots_registry.specs.Filed.{most_kept}
+use Rattle.dots_registry.specs.Fitting.{fits_now}
 use Rattle.dots_registry.proofs.Conditions.{timed_within}
 use Rattle.dots_registry.specs.LedgerValues.{LedgerValue, Represents}
-use Rattle.dots_registry.specs.Beginning.{HasTaken, joins_now}
+use Rattle.dots_registry.specs.Beginning.{joins_now}
+use Rattle.dots_registry.specs.Gathering.{GatheringValue, Gathers, HasGathered, IsReady, with_rows_of}
+use Rattle.dots_registry.proofs.Gatherings.{is_of_rows, room_rows}
 use Rattle.slot_journal.specs.Untaken.{IsApart, RefusesEntries, RefusesLedger, IsFailure}
 
 -- ---- one entry
-
--- the tables represent the entries that were taken
-pub taken_represents : (settings : SettingsValue) (entries : List Entry) (r : RegistryValue) → HasTaken settings entries r → registry.Represents r entries
-taken_represents settings entries r taken = subst (registry.Represents r) (filed_entries entries) taken.represents_filed.represents
 
 last_more : (t : ℕ) (entries : List Entry) (e : Entry) → last_or t (entries ++ e ∷ []) ≡ e.time
 last_more t [] e = refl
@@ -63,7 +59,7 @@ pub time_within : (e : Entry) → within_bounds e ≡ true → e.time < never
 time_within e within = let less = ltb-true e.time 281474976710656 (timed_within e within) in omega (arith, less)
 
 -- an entry before the time doesn't join
-pub early_apart : (settings : SettingsValue) (before : List Entry) (e : Entry) (r : RegistryValue) → HasTaken settings before r → e.time < time_of r
+pub early_apart : (settings : SettingsValue) (before : List Entry) (e : Entry) (r : GatheringValue) → HasGathered settings before r → e.time < time_of r.tables
     → joins settings before e ≡ false
 early_apart settings before e r taken early = false_from_ne_true (joins settings before e) (λ is. by_time (fits_parts is))
   where
@@ -78,33 +74,20 @@ early_apart settings before e r taken early = false_from_ne_true (joins settings
     by_time : last_time before ≤ e.time → ⊥
     by_time late = let same = taken.time in omega (arith, early, late, same)
 
--- what joins can be applied
-pub fits_taken : (settings : SettingsValue) (r : RegistryValue) (before : List Entry) (e : Entry) → IsOf settings r → registry.Represents r before
-    → joins_now settings r before e ≡ true → FitsIn r e
-fits_taken settings r before e is_of represents is = record {
-  settings = settings;
-  entries = before;
-  is_of = is_of;
-  represents = represents;
-  fits = (and_parts (fits_now settings r before e) (came_rightly e && has_one_peer e (mitigations (time_of r) before)) is).0;
-}
+-- what joins fits
+pub fits_joined : (settings : SettingsValue) (tables : RegistryValue) (before : List Entry) (e : Entry) → joins_now settings tables before e ≡ true
+    → fits_now settings tables before e ≡ true
+fits_joined settings tables before e is = (and_parts (fits_now settings tables before e) (came_rightly e && has_one_peer e (mitigations (time_of tables) before)) is).0
 
 -- one entry more
-pub taken_more : (settings : SettingsValue) (before : List Entry) (slot : ℕ) (e staged : Entry) (old new : RegistryValue) → staged ≡ e
-    → (IsOf settings old → IsOf settings new)
-    → (RepresentsFiled old (filed before) → RepresentsFiled new (filed before ++ record { entry = staged; slot = slot } ∷ []))
-    → time_of new ≡ staged.time → slot ≡ length before → joins settings before e ≡ true → HasTaken settings before old
-    → HasTaken settings (before ++ e ∷ []) new
-taken_more settings before slot e staged old new same keep file time place is taken = record {
-  is_of = keep taken.is_of;
-  represents_filed = subst
-      (RepresentsFiled new)
-      (ap (λ (x : Entry). filed before ++ record { entry = x; slot = slot } ∷ []) same
-      ∙ ap (λ (k : ℕ). filed before ++ record { entry = e; slot = k } ∷ []) place
-      ∙ sym (filed_more before e))
-      (file taken.represents_filed);
-  calm = calm_more settings before e taken.calm is;
-  time = time ∙ ap (λ (x : Entry). x.time) same ∙ sym (last_more 0 before e);
+pub gathered_more : (settings : SettingsValue) (before : List Entry) (e : Entry) (old new : GatheringValue) → HasGathered settings before old
+    → Gathers (before ++ e ∷ []) new → IsOf settings new.tables → time_of new.tables ≡ e.time → joins settings before e ≡ true
+    → HasGathered settings (before ++ e ∷ []) new
+gathered_more settings before e old new gathered gathers is_of at is = record {
+  gathers = gathers;
+  is_of = is_of;
+  calm = calm_more settings before e gathered.calm is;
+  time = at ∙ sym (last_more 0 before e);
 }
 
 -- ---- all of them
@@ -118,7 +101,7 @@ cut_at [] n x less is = absurd (omega (arith, less))
 cut_at (y ∷ xs) zero x less is = ap (λ z. z ∷ xs) (sym is)
 cut_at (y ∷ xs) (suc n) x less is = ap (λ ys. y ∷ ys) (cut_at xs n x (omega (arith, less)) is)
 
-pub is_apart : (settings : SettingsValue) (entries before : List Entry) (e : Entry) (slot : ℕ) (r : RegistryValue) → HasTaken settings before r
+pub is_apart : (settings : SettingsValue) (entries before : List Entry) (e : Entry) (slot : ℕ) (r : GatheringValue) → HasGathered settings before r
     → map (λ x. x) before ≡ take (length before) entries → length before < length entries → e ≡ get_or entries (length before) e → slot ≡ length before
     → joins settings before e ≡ false → IsApart settings entries slot
 is_apart settings entries before e slot r taken front less is place out = record {
@@ -137,35 +120,43 @@ last_small : (t : ℕ) (entries : List Entry) → t < 281474976710656 → AllByR
 last_small t [] less each = less
 last_small t (e ∷ entries) less each = last_small e.time entries (ltb-true e.time 281474976710656 (timed_within e each.0.within)) each.1
 
-pub time_small : (settings : SettingsValue) (entries : List Entry) (r : RegistryValue) (at now : ℕ) → HasTaken settings entries r → AllByRecursion HasRecord entries
-    → at < 2 ^ 48 → now ≡ max at (time_of r) → now < never
+pub time_small : (settings : SettingsValue) (entries : List Entry) (r : GatheringValue) (at now : ℕ) → HasGathered settings entries r → AllByRecursion HasRecord entries
+    → at < 2 ^ 48 → now ≡ max at (time_of r.tables) → now < never
 time_small settings entries r at now taken each early is =
     let last = last_small 0 entries (omega arith) each in
     let same = taken.time in
-    let most = max-le {a = at} {b = time_of r} {k = 281474976710656} (omega (arith, early)) (omega (arith, last, same)) in
+    let most = max-le {a = at} {b = time_of r.tables} {k = 281474976710656} (omega (arith, early)) (omega (arith, last, same)) in
     omega (arith, is, most)
 
-pub represents_begun : (settings : SettingsValue) (entries : List Entry) (taken : RegistryValue) (ledger : LedgerValue) → HasTaken settings entries taken
-    → (IsOf settings taken → IsOf settings ledger.registry)
-    → ((es : List Entry) → registry.Represents taken es → registry.Represents ledger.registry es)
-    → ((all : List Filed) → RepresentsFiled taken all → RepresentsFiled ledger.registry all)
+pub ready_of : (settings : SettingsValue) (entries : List Entry) (at t : ℕ) (taken ticked : GatheringValue) (tables : RegistryValue) → HasGathered settings entries taken
+    → Gathers entries ticked → IsOf settings ticked.tables → t ≡ time_of taken.tables → time_of ticked.tables ≡ max at t
+    → tables ≡ with_rows_of entries ticked.tables → IsReady settings entries at tables
+ready_of settings entries at t taken ticked tables gathered gathers is_of before later same =
+    subst
+    (IsReady settings entries at)
+    (sym same)
+    (record {
+      is_of = is_of_rows settings entries ticked.tables is_of;
+      represents_filed = gathers.awaits.represents_filed;
+      room = room_rows entries ticked.tables gathers.awaits.room;
+      calm = gathered.calm;
+      time = later ∙ ap (max at) (before ∙ gathered.time);
+    })
+
+pub represents_begun : (settings : SettingsValue) (entries : List Entry) (at : ℕ) (ledger : LedgerValue) → IsReady settings entries at ledger.registry
     → ledger.journal.used ≡ length entries → ledger.journal.slots ≡ slots_of settings
     → ((r : RegistryValue) → IsOf settings r → most_kept r < slots_of settings) → Represents ledger settings entries entries
-represents_begun settings entries taken ledger has keep stand file used slots few =
-    let less = few ledger.registry (keep has.is_of) in
+represents_begun settings entries at ledger ready used slots few =
+    let less = few ledger.registry ready.is_of in
     record {
-      is_of = keep has.is_of;
-      registry = stand entries (taken_represents settings entries taken has);
-      represents_filed = file (filed entries) has.represents_filed;
-      calm = has.calm;
+      is_of = ready.is_of;
+      registry = subst (registry.Represents ledger.registry) (filed_entries entries) ready.represents_filed.represents;
+      represents_filed = ready.represents_filed;
+      calm = ready.calm;
       kept = kept_refl (number_remembered ledger.registry) (time_of ledger.registry) entries;
       used = used;
       free = omega (arith, less, slots);
     }
-
-pub time_begun : (settings : SettingsValue) (entries : List Entry) (r : RegistryValue) (at time now : ℕ) → HasTaken settings entries r → time ≡ time_of r
-    → now ≡ max at time → now ≡ max at (last_time entries)
-time_begun settings entries r at time now taken is most = most ∙ ap (max at) (is ∙ taken.time)
 
 -- ---- why none begins
 

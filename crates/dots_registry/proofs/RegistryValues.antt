@@ -198,10 +198,8 @@ kind_of_put _ is = absurd (false≢true is)
 pub puts_kind : (e : Entry) → puts e ≡ true → (laws.is_of_mitigations e.change ≡ true) × (is_configuration e.change ≡ false)
 puts_kind e is = kind_of_put e.change is
 
-pub own_inside : (settings : SettingsValue) (registry : RegistryValue) (e : Entry) → IsOf settings registry → is_of_settings settings e ≡ true → puts e ≡ true
-    → e.domain < registry.live.domains
-own_inside settings registry e is_of own put =
-    let below : e.domain < length settings.domains =
+pub own_below : (settings : SettingsValue) (e : Entry) → is_of_settings settings e ≡ true → puts e ≡ true → e.domain < length settings.domains
+own_below settings e own put =
     ltb-true
     e.domain
     (length settings.domains)
@@ -210,8 +208,11 @@ own_inside settings registry e is_of own put =
     (list_any (λ peer. e.peer == peer) (sizes_of settings).peers)
     (nat_lt e.domain (length settings.domains))
     (puts_kind e put).1)
-    ∙ (and_parts (is_placed (sizes_of settings) e) (not (is_loss e.change) || list_any (loses_as e) (sizes_of settings).own) (known_of settings e own)).0) in
-    subst (λ n. e.domain < n) (sym is_of.domains) below
+    ∙ (and_parts (is_placed (sizes_of settings) e) (not (is_loss e.change) || list_any (loses_as e) (sizes_of settings).own) (known_of settings e own)).0)
+
+pub own_inside : (settings : SettingsValue) (registry : RegistryValue) (e : Entry) → IsOf settings registry → is_of_settings settings e ≡ true → puts e ≡ true
+    → e.domain < registry.live.domains
+own_inside settings registry e is_of own put = subst (λ n. e.domain < n) (sym is_of.domains) (own_below settings e own put)
 
 pub put_inside : (inside old : RegistryValue) (e entry : Entry) → inside ≡ old → entry ≡ silent e → FitsIn old e → puts e ≡ true
     → entry.domain < inside.live.domains

@@ -1,36 +1,19 @@
 -- How a ledger begins by what a disk holds.
-use Rattle.std.specs.Prelude.{◌≡◌, ℕ, max, Bool, ◌&&◌, true, List, Option}
+use Rattle.std.specs.Prelude.{◌≡◌, ℕ, max, Bool, ◌&&◌, List, Option}
 use Rattle.dots_host.specs.Media.{Media}
 use Rattle.dots_host.specs.Becoming.{RestsWith}
 use Rattle.dots_settings.specs.Settings.{SettingsValue}
 use Rattle.dots_history.specs.declared.entry.Entry.{Entry}
 use Rattle.dots_history.specs.Histories.{mitigations}
 use Rattle.dots_history.specs.Calm.{came_rightly}
-use Rattle.dots_history.specs.Fits.{last_time, joins, is_calm, has_one_peer}
-use Rattle.dots_registry.specs.Kept.{filed}
-use Rattle.dots_registry.specs.RegistryValues.{RegistryValue, IsOf, time_of}
-use Rattle.dots_registry.specs.Filed.{RepresentsFiled}
+use Rattle.dots_history.specs.Fits.{last_time, has_one_peer}
+use Rattle.dots_registry.specs.RegistryValues.{RegistryValue, time_of}
 use Rattle.dots_registry.specs.Fitting.{fits_now}
 use Rattle.slot_store.specs.Gates.{Sees}
-use Rattle.slot_journal.specs.declared.fault.JournalFault.{JournalFault}
-use Rattle.slot_journal.specs.declared.fault.JournalFault.TheVariants as fault
 use Rattle.std.specs.List.{AllByRecursion}
 use Rattle.slot_journal.specs.DiskEntries.{HasEntries, HasRecord}
 use Rattle.slot_journal.specs.DiskEntries as journal
 use Rattle.dots_registry.specs.LedgerValues.{LedgerValue, Represents}
-
--- A registry of these settings has the tables of these entries, each in the slot of its place, at the time of the last one; and the
--- entries are calm.
-pub record HasTaken (settings : SettingsValue) (entries : List Entry) (registry : RegistryValue) : Type 0 where
-  pub is_of : IsOf settings registry
-  pub represents_filed : RepresentsFiled registry (filed entries)
-  pub calm : is_calm settings entries ≡ true
-  pub time : time_of registry ≡ last_time entries
-
--- there are such entries
-pub record HasTakenSome (settings : SettingsValue) (registry : RegistryValue) : Type 0 where
-  pub entries : List Entry
-  pub taken : HasTaken settings entries registry
 
 -- what the tables say of an entry at their time: whether it joins the entries of which they are
 abbrev pub joins_now : SettingsValue → RegistryValue → List Entry → Entry → Bool

@@ -6,7 +6,8 @@ use Rattle.dots_history.specs.Bounds.{within_bounds}
 use Rattle.dots_history.specs.Entries.{same_client}
 use Rattle.dots_history.specs.Histories.{Mitigation}
 use Rattle.dots_history.specs.Fits as laws
-use Rattle.live_mitigations.specs.LiveValues.{has_live_room}
+use Rattle.live_mitigations.specs.LiveValues.{LiveValue, has_live_room}
+use Rattle.held_resources.specs.Tables.{Tables}
 use Rattle.held_resources.specs.Accepting.{accepts}
 use Rattle.dots_registry.specs.RegistryValues.{RegistryValue, Represents, IsOf, time_of}
 
@@ -22,6 +23,11 @@ fits_now settings registry entries e = within_bounds e && fits_then settings reg
 abbrev pub fits_tables : RegistryValue → List Entry → Entry → Bool
 fits_tables registry entries e =
     nat_le (time_of registry) e.time && (accepts registry.held.sizes entries e && has_live_room registry.live.limits entries e)
+
+-- these are tables of the registry
+pub record HasTables (registry : RegistryValue) (live : LiveValue) (held : Tables) : Type 0 where
+  pub live_is : registry.live ≡ live
+  pub held_is : registry.held ≡ held
 
 -- There are settings of which the registry is, and a history that it represents, so that the entry fits this history by
 -- these settings and isn't before the registry's time.

@@ -8,3 +8,5 @@ pub mod Fitting
 pub mod Judging
 pub mod ObserverViews
 pub mod Filed
+pub mod Gathering
+pub mod Awaited

@@ -6,7 +6,7 @@ ghost use Rattle.dots_settings.specs.Settings.{SettingsValue};
 ghost use Rattle.dots_history.specs.declared.entry.Entry.{Entry};
 ghost use Rattle.dots_history.specs.Fits.{is_calm};
 ghost use Rattle.dots_registry.specs.RegistryValues.{RegistryValue, IsOf};
-ghost use Rattle.dots_registry.specs.Filed.{most_kept};
+ghost use Rattle.dots_registry.specs.Filed.{HasSlots, most_kept};
 ghost use Rattle.slot_store.specs.Layout.{needed_of};
 ghost use Rattle.slot_store.specs.Opening.{Is};
 ghost use Rattle.slot_store.specs.Gates.{Sees};
@@ -14,12 +14,13 @@ ghost use Rattle.slot_journal.specs.declared.fault.JournalFault.{JournalFault};
 ghost use Rattle.slot_journal.specs.Sizes.{slots_of};
 ghost use Rattle.slot_journal.specs.DiskEntries.{HasEntries};
 ghost use Rattle.slot_journal.specs.Refused.{IsSmallBy, Caused};
-ghost use Rattle.dots_registry.specs.Beginning.{HasTaken, HasBegun};
+ghost use Rattle.dots_registry.specs.Beginning.{HasBegun};
+ghost use Rattle.dots_registry.specs.Gathering.{HasGathered};
 ghost use Rattle.slot_journal.specs.Untaken.{RefusesLedger, IsFailure};
 
+use crate::gathering::Gathering;
 use crate::ledger::Ledger;
-use crate::registry::Registry;
-use crate::taking::take_all;
+use crate::taking::gather;
 use dots_history::SlotList;
 use dots_host::Disk;
 use dots_lists::NoMemory;
@@ -68,16 +69,16 @@ impl Ledger {
         ensures beside { D.beside disk.old disk.new }
     {
         let keep = keep_list(alloc, settings)?;
-        let mut registry = Registry::new(alloc, settings)?;
-        match fill(alloc, disk, settings, at, &mut registry) {
+        let mut gathering = Gathering::new(alloc, settings)?;
+        match fill(alloc, disk, settings, at, &mut gathering) {
             Ok(journal) => {
                 return Ok(Ledger {
-                    registry,
+                    registry: gathering.into_registry(),
                     journal,
                     keep,
                 });
             }
-            Err(fault) => return Err(give_up(registry, fault)),
+            Err(fault) => return Err(give_up(gathering, fault)),
         }
     }
 }
@@ -92,15 +93,16 @@ fn fill<D: Disk>(
     disk: &mut D,
     settings: &Settings,
     at: u64,
-    registry: &mut Registry,
+    gathering: &mut Gathering,
 ) -> Result<Journal, JournalFault>
     requires early { at < 2 ^ 48 }
-    requires first { HasTaken settings.now [] registry.old }
+    requires first { HasGathered settings.now [] gathering.old }
     requires fewer { (r : RegistryValue) → IsOf settings.now r → most_kept r < slots_of settings.now }
     ensures moments { (seen : ℕ → ℕ) (entries : List Entry) → RestsWith (D.media disk.old) (Is seen) → HasEntries settings.now seen entries
         → Leaves (D.media disk.old) (D.media disk.new) (λ image. HasEntries settings.now image entries) }
     ensures recovered { IfOk result (λ journal. HasBegun settings.now at (D.media disk.old) (D.media disk.new)
-        (record { registry = registry.new; journal = journal })) }
+        (record { registry = gathering.new.tables; journal = journal })) }
+    ensures room { IfOk result (λ journal. HasSlots gathering.new.tables) }
     ensures size { IfOk result (λ journal. (journal.slots ≡ slots_of settings.now) × (needed_of (slots_of settings.now) ≤ D.extent disk.new)) }
     ensures refused { IfErr result (λ fault. (seen : ℕ → ℕ) → Sees (D.media disk.old) seen
         → RefusesLedger settings.now (D.extent disk.old) seen (D.media disk.new) fault) }
@@ -114,17 +116,15 @@ fn fill<D: Disk>(
     ensures beside { D.beside disk.old disk.new }
 {
     let (journal, entries) = Journal::recover(alloc, disk, settings)?;
-    take_all(registry, settings, &journal, entries)?;
-    let now = at.max(registry.time());
-    registry.tick(now);
+    gather(gathering, settings, &journal, entries, at)?;
     Ok(journal)
 }
 
 /// Lets the tables go, for this fault.
-fn give_up(registry: Registry, fault: JournalFault) -> JournalFault
+fn give_up(gathering: Gathering, fault: JournalFault) -> JournalFault
     ensures { result ≡ fault }
 {
-    registry.let_go();
+    gathering.let_go();
     fault
 }
 

@@ -12,7 +12,8 @@
 //! registry itself. [`slot_laws`] joins them.
 //!
 //! A [`Ledger`] has a journal and a registry: what a server has accepted, on its disk and in the tables that represent it. [`Ledger::begin`]
-//! recovers the entries of a disk, and makes the tables anew of them (`specs/Beginning`). [`Ledger::accept`] appends an entry to the journal, and
+//! recovers the entries of a disk, and makes the tables anew of them (`specs/Beginning`): the entries are taken in their order into tables
+//! without rows of mitigations (`specs/Gathering`), and of what is live in the end the rows are made once. [`Ledger::accept`] appends an entry to the journal, and
 //! then takes it into the tables; where no slot is free it compacts the journal before. So the tables never have what the disk doesn't. Whenever
 //! a crash comes, what is left on the disk holds entries with the view of the history, or of the history with the entry (`specs/Crashes`), and
 //! once `accept` has answered, of the latter alone.
@@ -22,11 +23,13 @@
 //! open. [`configuration_laws`] says how what a peer configures of its session goes into a history, and of which domain it is.
 #![tactic(auto)]
 
+mod awaited;
 mod beginning;
 mod compacting;
 pub mod configuration_laws;
 mod expiring;
 mod fitting;
+mod gathering;
 pub mod judgement_laws;
 mod judging;
 pub mod laws;

@@ -41,7 +41,7 @@ pub struct Registry {
     pub(crate) live: LiveMitigations,
     pub(crate) held: HeldResources,
     pub(crate) remembered: Remembered,
-    filters: InstalledFilters,
+    pub(crate) filters: InstalledFilters,
     /// The slot of a journal in which the last entry stands.
     pub(crate) last: Option<u32>,
 }
@@ -272,7 +272,12 @@ fn has_working(live: &LiveMitigations, held: &HeldResources, entry: &Entry) -> b
 }
 
 /// Remembers the message of a signal entry with its reply, and gives the entry back without the reply.
-fn remember(remembered: &mut Remembered, alloc: Global, mut entry: Entry, slot: u32) -> Entry
+pub(crate) fn remember(
+    remembered: &mut Remembered,
+    alloc: Global,
+    mut entry: Entry,
+    slot: u32,
+) -> Entry
     requires { has_ring remembered.old entry ≡ true }
     ensures entry { result ≡ silent entry }
     ensures rings { remembered.new ≡ rings_with slot entry remembered.old }

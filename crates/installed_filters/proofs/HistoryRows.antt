@@ -170,7 +170,7 @@ rows_are_bare lived entries domain within stands =
 -- ---- who is lost
 
 -- where a test says of each peer what the history does, the two are one
-tests_same : (lost : ℕ → ℕ → Bool) (standing : List Entry) → ((peer domain : ℕ) → lost peer domain ≡ is_lost_in standing peer domain)
+pub tests_same : (lost : ℕ → ℕ → Bool) (standing : List Entry) → ((peer domain : ℕ) → lost peer domain ≡ is_lost_in standing peer domain)
     → lost ≡ is_lost_in standing
 tests_same lost standing same = fun_ext (λ (peer : ℕ). fun_ext (λ (domain : ℕ). same peer domain))
 

@@ -230,7 +230,7 @@ targets_changed f before after e (target ∷ targets) same =
     ∙ sym (map-append (scrub_row_with after) here (rows_in e targets))
 
 -- the rows as they are made, and then made active or not
-rows_set : (active : Bool) (e : Entry) → map (row_set active) (rows_put e) ≡ rows_with active e
+pub rows_set : (active : Bool) (e : Entry) → map (row_set active) (rows_put e) ≡ rows_with active e
 rows_set active e = targets_changed (row_set active) false active e (targets_of e.change) (λ target prefix. refl)
 
 pub own_made : (lost : ℕ → ℕ → Bool) (e : Entry) (own : List ScrubRow) (active : Bool) (filters new : FiltersValue) → own ≡ rows_put e → lives_at_once e ≡ true

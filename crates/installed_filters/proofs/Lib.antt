@@ -10,3 +10,4 @@ pub mod Room
 pub mod Limits
 pub mod Copies
 pub mod Changes
+pub mod OneByOne

@@ -61,7 +61,7 @@ targets_number active e (target ∷ targets) =
     ∙ ap (λ n. n + length (map (scrub_row_with active) rest)) (prefixes_number active e target target.prefixes)
     ∙ ap (λ n. length target.prefixes + n) (targets_number active e targets)
 
-rows_number : (active : Bool) (e : Entry) → length (rows_with active e) ≡ prefix_count (targets_of e.change)
+pub rows_number : (active : Bool) (e : Entry) → length (rows_with active e) ≡ prefix_count (targets_of e.change)
 rows_number active e = targets_number active e (targets_of e.change)
 
 few_scrubs : (working : Entry → Bool) (ms : List Mitigation) → list_all has_few_prefixes ms ≡ true → length (scrubs_by working ms) ≤ length ms * MAX_RESOLVED
@@ -116,7 +116,7 @@ unfolding is_list
 list_kind (change.SetAcl acl) = refl
 list_kind _ = refl
 
-lists_number : (f : Entry → Bool) (es : List Entry) → length (acls_by_client f es) ≡ tally (λ (e : Entry). is_list e.change) es
+pub lists_number : (f : Entry → Bool) (es : List Entry) → length (acls_by_client f es) ≡ tally (λ (e : Entry). is_list e.change) es
 lists_number f [] = refl
 lists_number f (e ∷ es) =
     by_list (acl_of e.change) (list_kind e.change) (lists_number f es)

@@ -42,7 +42,7 @@ row_is t entries e acl = ap (λ b. Some (record { domain = e.domain; cuid = e.cu
 abbrev lists : List Entry → List Entry
 lists xs = filter (λ (x : Entry). option_any (λ (acl : Acl). true) (acl_of x.change)) xs
 
-lists_by : (t : ℕ) (entries es : List Entry)
+pub lists_by : (t : ℕ) (entries es : List Entry)
     → acl_rows_of t entries (lists es) ≡ acls_by_client (is_mitigating t entries) es
 lists_by t entries [] = refl
 lists_by t entries (e ∷ es) = by_list (acl_of e.change) refl (lists_by t entries es)
@@ -90,7 +90,7 @@ abbrev row_with : Entry → Acl → Bool → AclRow
 row_with e acl active = record { domain = e.domain; cuid = e.cuid; acl = acl; active = active }
 
 -- where a list is switched, by its activation
-switched_by : (b v before after : Bool) (e : Entry) (acl : Acl) → after ≡ cond b v before
+pub switched_by : (b v before after : Bool) (e : Entry) (acl : Acl) → after ≡ cond b v before
     → cond (b && waits acl.activation) (acl_switched v (acl_row_by before e acl)) (acl_row_by before e acl) ≡ acl_row_by after e acl
 switched_by b v before after e acl is = by_activation acl.activation refl
   where
@@ -391,7 +391,7 @@ acls_woken domain goes before after ms es same =
 
 -- ---- who mitigates after a mitigation is put
 
-is_client : (e x : Entry) → is_of_client e.domain e.cuid x.domain x.cuid ≡ same_client x e
+pub is_client : (e x : Entry) → is_of_client e.domain e.cuid x.domain x.cuid ≡ same_client x e
 unfolding same_client
 is_client e x = refl
 

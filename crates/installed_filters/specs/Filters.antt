@@ -11,6 +11,8 @@ use Rattle.filter_table.specs.TableRows.{PlacedScrub, is_of_client, row_is_of, r
 use Rattle.filter_table.specs.Table.{TableValue}
 use Rattle.dots_history.specs.declared.entry.Entry.{Entry}
 use Rattle.ip_scope.specs.Prefix.{PrefixValue}
+use Rattle.dots_history.specs.declared.entry.MessageKey.TheVariants as key
+use Rattle.dots_history.specs.declared.put.Put.{Put}
 use Rattle.dots_history.specs.declared.put.Target.{Target}
 use Rattle.dots_history.specs.declared.change.Change.{Change}
 use Rattle.dots_history.specs.declared.change.Change.TheVariants as change
@@ -63,6 +65,11 @@ scrub_row_with active row = record {
   protocols = row.target.protocols;
   active = active;
 }
+
+-- an entry that puts this mitigation of a client
+abbrev pub putting : ℕ → List ℕ → Put → Entry
+putting domain cuid put =
+    record { time = 0; peer = 0; domain = domain; cuid = cuid; key = key.Http; reply = []; change = change.Put put }
 
 -- the rows of the mitigation that an entry puts, all active or all not
 abbrev pub rows_with : Bool → Entry → List ScrubRow
@@ -184,6 +191,14 @@ filters_put lost e ms filters =
     filters
     (scrubs_without e.domain (stays_beside e) ms filters.scrubs ++ own_rows lost e)
     (map (activated_row e.domain e.cuid (works_at_once lost e || some_of (works_beside lost e) e.cuid ms)) filters.acls)
+
+-- One more live mitigation: its rows come last, and are active where it filters; and then its client mitigates.
+abbrev pub filters_more : (ℕ → ℕ → Bool) → Mitigation → FiltersValue → FiltersValue
+filters_more lost m filters =
+    with_rows
+    filters
+    (filters.scrubs ++ rows_with (is_working lost m) m.put)
+    (if is_working lost m then map (activated_row m.put.domain m.put.cuid true) filters.acls else filters.acls)
 
 -- The signal of a peer of the domain is lost or back, as the test says now. The rows of the domain's mitigations that wait for it
 -- are active where it is lost, and a client that has one of these mitigates where one of its mitigations filters.

@@ -35,7 +35,7 @@ impl Model for InstalledFilters {
 }
 
 impl InstalledFilters {
-    /// No rows, and room for as many as the settings allow. This is the only call that takes memory.
+    /// No rows, and room for as many as the settings allow. Only this call and [`InstalledFilters::install`] take memory.
     #[tactic(auto, using(crate::proofs::Places::first_placed, crate::proofs::Places::first_represents, crate::proofs::Places::first_room))]
     pub fn new(alloc: Global, settings: &Settings) -> Result<Self, NoMemory>
         ensures represents { IfOk result (λ filters. (t : ℕ) → Represents filters t []) }

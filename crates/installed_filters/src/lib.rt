@@ -9,11 +9,12 @@
 //! A mitigation that waits for a lost signal has its rows from the beginning, and they are active only while the signal is lost
 //! (RFC 9132, section 4.4.1: `trigger-mitigation`). Who is lost is asked of a `HeldResources`.
 //!
-//! The copies that the rows of an entry need are made before, by [`Staged::of`]; after [`InstalledFilters::new`] no call takes
-//! memory but that one.
+//! The copies that the rows of an entry need are made before, by [`Staged::of`]. [`InstalledFilters::install`] makes the rows of a mitigation
+//! that is live already. After [`InstalledFilters::new`] no other call takes memory.
 #![tactic(auto)]
 
 mod filters;
+mod installing;
 mod lists;
 mod losses;
 mod mitigations;

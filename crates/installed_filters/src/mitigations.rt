@@ -116,7 +116,7 @@ impl InstalledFilters {
     }
 
     /// Installs these rows, and says of each whether it is active.
-    fn install_all(&mut self, own: Vec<ScrubRow>, active: bool)
+    pub(crate) fn install_all(&mut self, own: Vec<ScrubRow>, active: bool)
         requires { length self.old.scrubs + length own.items ≤ self.old.scrub_room }
         ensures { self.new ≡ with_rows self.old (self.old.scrubs ++ map (row_set active) own.items) self.old.acls }
     {

@@ -1,13 +1,12 @@
 //! An entry with the copies that its rows need.
 
 ghost use Rattle.std.specs.Prelude.{◌≡◌, ◌++◌, ℕ, true, false, map, option_map, IfOk, OnOk, OnErr};
-ghost use Rattle.dots_history.specs.Rows.{acl_of, mid_of, targets_of};
-ghost use Rattle.dots_history.specs.declared.change.Change.TheVariants as change;
-ghost use Rattle.installed_filters.specs.Filters.{rows_put, rows_of_target, scrub_row_with, list_put, acl_row_with, needs_rows};
+ghost use Rattle.dots_history.specs.Rows.{acl_of};
+ghost use Rattle.installed_filters.specs.Filters.{rows_put, rows_of_target, putting, scrub_row_with, list_put, acl_row_with, needs_rows};
 
 use acl_lists::{Acl, AclRow, ScrubRow};
 use dots_history::{Change, Entry, Put, Target};
-use dots_lists::NoMemory;
+use dots_lists::{NoMemory, Text};
 use ip_scope::Prefix;
 use std::alloc::Global;
 use std::marker::Model;
@@ -68,13 +67,14 @@ impl Staged {
 }
 
 /// A row for each prefix of each target of the mitigation that the entry puts, and the row of the list that it writes.
+#[tactic(auto, using(crate::proofs::Copies::put_alike))]
 fn copies(alloc: Global, entry: &Entry) -> Result<(Vec<ScrubRow>, Option<AclRow>), NoMemory>
     ensures scrubs { IfOk result (λ copies. copies.0.items ≡ rows_put entry.now) }
     ensures list { IfOk result (λ copies. copies.1 ≡ list_put entry.now) }
     ensures no_memory { OnErr result (needs_rows entry.now.change ≡ true) }
 {
     match &entry.change {
-        Change::Put(put) => Ok((rows_of_put(alloc, entry, put)?, None)),
+        Change::Put(put) => Ok((rows_of_put(alloc, entry.domain, &entry.cuid, put)?, None)),
         Change::SetAcl(acl) => {
             let row = row_of_acl(alloc, entry, acl)?;
             Ok((Vec::new(alloc), Some(row)))
@@ -83,13 +83,18 @@ fn copies(alloc: Global, entry: &Entry) -> Result<(Vec<ScrubRow>, Option<AclRow>
     }
 }
 
-fn rows_of_put(alloc: Global, entry: &Entry, put: &Put) -> Result<Vec<ScrubRow>, NoMemory>
-    requires { entry.now.change ≡ change.Put put.now }
-    ensures { IfOk result (λ rows. rows.items ≡ rows_put entry.now) }
+/// A row for each prefix of each target of a mitigation of this client, which isn't active yet.
+pub(crate) fn rows_of_put(
+    alloc: Global,
+    domain: u16,
+    cuid: &Text,
+    put: &Put,
+) -> Result<Vec<ScrubRow>, NoMemory>
+    ensures { IfOk result (λ rows. rows.items ≡ rows_put (putting domain cuid.now put.now)) }
 {
     let mut rows = Vec::new(alloc);
     for target in put.targets.items() {
-        push_rows(&mut rows, entry, put.mid, target)?;
+        push_rows(&mut rows, domain, cuid, put, target)?;
     }
     Ok(rows)
 }
@@ -97,33 +102,33 @@ fn rows_of_put(alloc: Global, entry: &Entry, put: &Put) -> Result<Vec<ScrubRow>,
 /// Puts the rows of a target behind the others.
 fn push_rows(
     rows: &mut Vec<ScrubRow>,
-    entry: &Entry,
-    mid: u32,
+    domain: u16,
+    cuid: &Text,
+    put: &Put,
     target: &Target,
 ) -> Result<(), NoMemory>
-    requires { mid ≡ mid_of entry.now.change }
-    ensures { OnOk result (rows.new.items ≡ rows.old.items ++ rows_of_target entry.now target.now) }
+    ensures { OnOk result (rows.new.items ≡ rows.old.items ++ rows_of_target (putting domain cuid.now put.now) target.now) }
 {
     for prefix in target.prefixes.items() {
-        rows.push(row_of_prefix(entry, mid, target, *prefix)?)?;
+        rows.push(row_of_prefix(domain, cuid, put, target, *prefix)?)?;
     }
     Ok(())
 }
 
 /// A row that isn't active yet.
 fn row_of_prefix(
-    entry: &Entry,
-    mid: u32,
+    domain: u16,
+    cuid: &Text,
+    put: &Put,
     target: &Target,
     prefix: Prefix,
 ) -> Result<ScrubRow, NoMemory>
-    requires { mid ≡ mid_of entry.now.change }
-    ensures { IfOk result (λ row. row ≡ scrub_row_with false (record { put = entry.now; target = target.now; prefix = prefix })) }
+    ensures { IfOk result (λ row. row ≡ scrub_row_with false (record { put = putting domain cuid.now put.now; target = target.now; prefix = prefix })) }
 {
     Ok(ScrubRow {
-        domain: entry.domain,
-        cuid: entry.cuid.copy()?,
-        mid,
+        domain,
+        cuid: cuid.copy()?,
+        mid: put.mid,
         prefix,
         ports: target.ports.copy()?,
         protocols: target.protocols.copy()?,

@@ -37,11 +37,11 @@ bare_step put Ended e = refl
 bare_step put Open e = refl
 bare_step put (Withdrawn at) e = refl
 
-bare_status : (put : Entry) (s : Status) (later : List Entry) → status (bare put) s (map bare later) ≡ status put s later
+pub bare_status : (put : Entry) (s : Status) (later : List Entry) → status (bare put) s (map bare later) ≡ status put s later
 bare_status put s [] = refl
 bare_status put s (e ∷ later) = ap (λ x. status (bare put) x (map bare later)) (bare_step put s e) ∙ bare_status put (step put s e) later
 
-bare_live : (t : ℕ) (put : Entry) (s : Status) → live t (bare put) s ≡ live t put s
+pub bare_live : (t : ℕ) (put : Entry) (s : Status) → live t (bare put) s ≡ live t put s
 unfolding runs
 bare_live t put Ended = refl
 bare_live t put Open = refl

@@ -12,3 +12,4 @@ pub mod Kept
 pub mod Domains
 pub mod Unions
 pub mod Beside
+pub mod Finding

@@ -1,5 +1,6 @@
 -- The slots of the entries by which a mitigation is live.
-use Rattle.std.specs.Prelude.{ℕ, zero, suc, ◌&&◌, if◌then◌else◌, List, [], ◌∷◌, ◌++◌, map, Option, Some, None, option_to_list}
+use Rattle.std.specs.Prelude.{ℕ, zero, suc, ◌&&◌, ◌==◌, slice_get, if◌then◌else◌, List, [], ◌∷◌, ◌++◌, map, Option, Some, None, option_to_list}
+use Rattle.std.specs.List.{position_or_len}
 use Rattle.dots_history.specs.declared.entry.Entry.{Entry}
 use Rattle.dots_history.specs.declared.status.Status.{Status}
 use Rattle.dots_history.specs.declared.status.Status.TheVariants.{Open}
@@ -53,6 +54,10 @@ slots_left x ms ss = beside (if_left x) ms ss
 -- of the entry's own mitigation, where it puts one that is live at its time
 abbrev pub slots_first : Filed → List MitigationSlots
 slots_first x = if live x.entry.time x.entry Open then record { put = x.slot; withdrawal = None } ∷ [] else []
+
+-- the mitigation whose entry stands in a slot
+abbrev pub put_in : ℕ → List Mitigation → List MitigationSlots → Option Mitigation
+put_in slot ms ss = slice_get ms (position_or_len (λ (s : MitigationSlots). s.put == slot) ss)
 
 -- ---- one of a list
 

@@ -1,7 +1,7 @@
 //! The live mitigations of one domain.
 
-ghost use Rattle.std.specs.Prelude.{◌≡◌, ◌≤◌, ◌++◌, ◌∷◌, ◌==◌, ◌&&◌, [], None, length, map, IfOk, vec_capacity};
-ghost use Rattle.std.specs.List.{list_any};
+ghost use Rattle.std.specs.Prelude.{◌≡◌, ◌≤◌, ◌++◌, ◌∷◌, ◌==◌, ◌&&◌, [], None, length, map, option_copied, IfOk, vec_capacity};
+ghost use Rattle.std.specs.List.{list_any, position, position_or_len};
 ghost use Rattle.dots_history.specs.Entries.{put_of};
 ghost use Rattle.dots_history.specs.Keeping.{moved};
 ghost use Rattle.dots_history.specs.Rows.{triggers, waits};
@@ -12,6 +12,8 @@ ghost use Rattle.live_mitigations.specs.Ends.{never, first_end};
 ghost use Rattle.dots_history.specs.Slots.{Rises};
 ghost use Rattle.dots_history.specs.KeptPlaces.{union};
 ghost use Rattle.live_mitigations.specs.Rows.{aged, noted, grown, of_entry};
+ghost use Rattle.live_mitigations.specs.Slots.{put_in};
+ghost use Rattle.live_mitigations.specs.declared.slots.MitigationSlots.{MitigationSlots};
 ghost use Rattle.live_mitigations.specs.Numbers.{numbers_in, table_renumbered};
 
 use crate::row::Row;
@@ -112,6 +114,13 @@ impl LiveList {
         push_put(&mut self.rows, entry);
     }
 
+    /// The one whose entry stands in this slot.
+    pub fn put_in(&self, slot: u32) -> Option<&Row>
+        ensures { option_copied result ≡ put_in slot self.now.rows self.now.slots }
+    {
+        self.rows.get(place_in(self.slots.as_slice(), slot))
+    }
+
     /// Puts the slots of each into the list.
     pub fn put_into(&self, into: &mut SlotList)
         requires { length (union (numbers_in self.now.slots) into.old.items) ≤ into.old.room }
@@ -135,6 +144,23 @@ impl LiveList {
     {
         first_end(self.rows.as_slice())
     }
+}
+
+/// The place of the mitigation whose entry stands in this slot; their number where there is none.
+#[tactic(auto, using(crate::proofs::Finding::place_found, crate::proofs::Finding::none_found))]
+fn place_in(slots: &[MitigationSlots], slot: u32) -> usize
+    ensures { result ≡ position_or_len (λ (s : MitigationSlots). s.put == slot) slots.now }
+{
+    match place_of(slots, slot) {
+        Some(place) => place,
+        None => slots.len(),
+    }
+}
+
+fn place_of(slots: &[MitigationSlots], slot: u32) -> Option<usize>
+    ensures { result ≡ position (λ (s : MitigationSlots). s.put == slot) slots.now }
+{
+    slots.iter().position(|own| own.put == slot)
 }
 
 /// Takes those out that are over at the time t.

@@ -1,6 +1,6 @@
 //! The live mitigations of all domains at a time.
 
-ghost use Rattle.std.specs.Prelude.{◌≡◌, ◌≢◌, ℕ, ◌<◌, ◌≤◌, ◌++◌, ◌∷◌, ◌==◌, ◌&&◌, [], true, false, List, length, map, IfOk, IfSome, IfNone};
+ghost use Rattle.std.specs.Prelude.{◌≡◌, ◌≢◌, ℕ, ◌<◌, ◌≤◌, ◌++◌, ◌∷◌, ◌==◌, ◌&&◌, [], true, false, List, length, map, option_copied, IfOk, IfSome, IfNone};
 ghost use Rattle.std.specs.List.{list_any};
 ghost use Rattle.dots_history.specs.declared.entry.Entry.{Entry};
 ghost use Rattle.dots_history.specs.Histories.{mitigations, alone};
@@ -13,6 +13,8 @@ ghost use Rattle.dots_history.specs.Tables.{bare};
 ghost use Rattle.dots_history.specs.Views.{mitigations_at, mitigations_with, mitigations_of};
 ghost use Rattle.live_mitigations.specs.Ends.{never};
 ghost use Rattle.live_mitigations.specs.LiveValues.{rows_for, count_live, has_due, puts, Represents, ComesTo, SameButRows, SlotsAre, SlotsCome, keeps_limits, has_live_room};
+ghost use Rattle.live_mitigations.specs.Rows.{slots_of};
+ghost use Rattle.live_mitigations.specs.Slots.{put_in};
 ghost use Rattle.live_mitigations.specs.Numbers.{all_numbers, live_renumbered};
 
 use crate::counting::keep_limits;
@@ -102,6 +104,13 @@ impl LiveMitigations {
         ensures live { (entries : List Entry) → Represents self.now entries → result.now ≡ mitigations_of domain (mitigations self.now.time (map bare entries)) }
     {
         self.tables.rows(domain)
+    }
+
+    /// The live mitigation of a domain whose entry stands in this slot of the journal.
+    pub fn put_in(&self, domain: u16, slot: u32) -> Option<&Row>
+        ensures { option_copied result ≡ put_in slot (rows_for self.now domain) (slots_of domain self.now.tables) }
+    {
+        self.tables.put_in(domain, slot)
     }
 
     /// Whether a live mitigation of this peer filters at once (RFC 9132, section 4.4.1: `trigger-mitigation`).

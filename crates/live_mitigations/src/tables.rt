@@ -1,13 +1,14 @@
 //! The live mitigations of each domain, and when the first of each are over.
 
-ghost use Rattle.std.specs.Prelude.{◌≡◌, ℕ, ◌<◌, ◌≤◌, ◌==◌, ◌&&◌, length, map, IfOk, IfSome, IfNone, Some, slice_get};
+ghost use Rattle.std.specs.Prelude.{◌≡◌, ℕ, ◌<◌, ◌≤◌, ◌==◌, ◌&&◌, length, map, option_copied, IfOk, IfSome, IfNone, Some, slice_get};
 ghost use Rattle.dots_history.specs.Rows.{triggers, waits};
 ghost use Rattle.dots_history.specs.Tables.{bare};
 ghost use Rattle.dots_history.specs.Views.{mitigations_with};
 ghost use Rattle.live_mitigations.specs.Ends.{never, first_end};
 ghost use Rattle.dots_history.specs.Slots.{Rises};
 ghost use Rattle.dots_history.specs.KeptPlaces.{union};
-ghost use Rattle.live_mitigations.specs.Rows.{LiveTable, AreEmpty, aged, noted, grown, update, rows_at, any_row};
+ghost use Rattle.live_mitigations.specs.Rows.{LiveTable, AreEmpty, aged, noted, grown, update, rows_at, slots_of, any_row};
+ghost use Rattle.live_mitigations.specs.Slots.{put_in};
 ghost use Rattle.live_mitigations.specs.Numbers.{all_numbers, table_renumbered};
 
 use crate::list::LiveList;
@@ -59,6 +60,16 @@ impl LiveTables {
         match self.lists.get(usize::from(domain)) {
             Some(list) => list.rows(),
             None => &[],
+        }
+    }
+
+    /// The one of a domain whose entry stands in this slot; None where there is no such domain.
+    pub fn put_in(&self, domain: u16, slot: u32) -> Option<&Row>
+        ensures { option_copied result ≡ put_in slot (rows_at domain self.now) (slots_of domain self.now) }
+    {
+        match self.lists.get(usize::from(domain)) {
+            Some(list) => list.put_in(slot),
+            None => None,
         }
     }
 

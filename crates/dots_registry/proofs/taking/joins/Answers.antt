@@ -17,16 +17,16 @@ third_left : (first second third value : Bool) → first ≡ true → second ≡
 third_left first second third value one two is = is ∙ sym (ap (λ test. test && (second && third)) one ∙ ap (λ test. test && third) two)
 
 pub returns-then-came_rightly : goal.returns-then-came_rightly
-returns-then-came_rightly c = λ before represents. elim c.if-fits.branch [
+returns-then-came_rightly c = λ before gathers. elim c.if-fits.branch [
   | then-fits w ↦
-      third_left _ _ _ c.has_one_peer.result (sym (c.fits.ensures before represents) ∙ w.if-fits.true) (sym w.came_rightly.ensures ∙ sym w.value-is ∙ c.if-came_rightly.true) (c.has_one_peer.ensures before represents)
+      third_left _ _ _ c.has_one_peer.result (sym (c.fits.ensures before gathers) ∙ w.if-fits.true) (sym w.came_rightly.ensures ∙ sym w.value-is ∙ c.if-came_rightly.true) (c.has_one_peer.ensures before gathers)
   | else-fits w ↦ absurd (false≢true (sym w.if-fits.false ∙ sym w.value-is ∙ c.if-came_rightly.true))
 ]
 
 pub returns-else-came_rightly : goal.returns-else-came_rightly
-returns-else-came_rightly c = λ before represents. elim c.if-fits.branch [
+returns-else-came_rightly c = λ before gathers. elim c.if-fits.branch [
   | then-fits w ↦
-      second_false _ _ _ c.if-fits.value (sym (c.fits.ensures before represents) ∙ w.if-fits.true) (sym w.came_rightly.ensures ∙ sym w.value-is ∙ c.if-came_rightly.false) c.if-came_rightly.false
+      second_false _ _ _ c.if-fits.value (sym (c.fits.ensures before gathers) ∙ w.if-fits.true) (sym w.came_rightly.ensures ∙ sym w.value-is ∙ c.if-came_rightly.false) c.if-came_rightly.false
   | else-fits w ↦
-      first_false _ (came_rightly c.args.entry.now) (has_one_peer c.args.entry.now (mitigations (time_of c.args.registry.now) before)) c.if-fits.value (sym (c.fits.ensures before represents) ∙ w.if-fits.false) (w.value-is ∙ w.if-fits.false)
+      first_false _ (came_rightly c.args.entry.now) (has_one_peer c.args.entry.now (mitigations (time_of c.args.gathering.now.tables) before)) c.if-fits.value (sym (c.fits.ensures before gathers) ∙ w.if-fits.false) (w.value-is ∙ w.if-fits.false)
 ]

@@ -6,7 +6,7 @@ use Rattle.std.proofs.lemmas.Iterator.Consumers.{YieldsList-so_far, YieldsList-t
 use Rattle.std.specs.List.{AllByRecursion}
 use Rattle.dots_history.specs.declared.entry.Entry.{Entry}
 use Rattle.slot_journal.specs.DiskEntries.{HasRecord}
-use Rattle.dots_registry.specs.Beginning.{HasTaken}
+use Rattle.dots_registry.specs.Gathering.{HasGathered}
 use Rattle.slot_journal.specs.Untaken.{IsApart}
 use Rattle.dots_registry.proofs.Recovering.{same_items, is_apart}
 use Rattle.dots_registry.proofs.taking.take_all.Goals as goal
@@ -23,7 +23,7 @@ take-requires-clause-within c =
     (record_at c.into_vec-entry-items.result.items _ _ (subst (AllByRecursion HasRecord) (sym c.into_vec-entry-items.ensures) c.requires.each) here.0 here.1).within
 
 pub take-requires-clause-taken : goal.take-requires-clause-taken
-take-requires-clause-taken c = record { entries = c.loop-entry.yielded; taken = c.loop-entry.invariant.taken }
+take-requires-clause-taken c = record { entries = c.loop-entry.yielded; gathered = c.loop-entry.invariant.taken }
 
 pub loop-entry-preserved : goal.loop-entry-preserved
 loop-entry-preserved c = record {
@@ -38,7 +38,7 @@ returns-then-not-branch-clause-refused c =
     let here = YieldsList-turn gives c.loop-entry.yielded c.loop-entry.entry-iterator c.loop-entry.yielded_by c.next.result c.next.new.self c.in-Some.entry c.in-Some.is c.next.ensures.steps in (
       c.loop-entry.slot,
       subst (λ (es : List Entry). IsApart c.args.settings.now es c.loop-entry.slot) c.into_vec-entry-items.ensures
-          (is_apart c.args.settings.now c.into_vec-entry-items.result.items c.loop-entry.yielded c.in-Some.entry c.loop-entry.slot c.loop-entry.registry c.loop-entry.invariant.taken front here.0 here.1
+          (is_apart c.args.settings.now c.into_vec-entry-items.result.items c.loop-entry.yielded c.in-Some.entry c.loop-entry.slot c.loop-entry.gathering c.loop-entry.invariant.taken front here.0 here.1
           c.loop-entry.invariant.place (c.in_ok-take.ensures.no c.if-not-branch.true c.loop-entry.yielded c.loop-entry.invariant.taken)),
       c.place.ensures,
     )
@@ -47,7 +47,7 @@ pub returns-clause-taken : goal.returns-clause-taken
 returns-clause-taken c =
     let gives = YieldsList-from_vec {s = c.into_iter-entry-iterator.result} c.into_vec-entry-items.result.items (search rules) (search rules) in
     let all = YieldsList-end gives c.loop-entry.yielded c.loop-entry.entry-iterator c.loop-entry.yielded_by c.next.result c.next.new.self c.in-None.is c.next.ensures.steps in
-    subst (λ (es : List Entry). HasTaken c.args.settings.now es c.loop-entry.registry) (sym (same_items c.loop-entry.yielded) ∙ all.0 ∙ c.into_vec-entry-items.ensures) c.loop-entry.invariant.taken
+    subst (λ (es : List Entry). HasGathered c.args.settings.now es c.loop-entry.gathering) (sym (same_items c.loop-entry.yielded) ∙ all.0 ∙ c.into_vec-entry-items.ensures) c.loop-entry.invariant.taken
 
 pub place-requires : goal.place-requires
 place-requires c =

@@ -1,12 +1,13 @@
-use Rattle.std.proofs.Common.{◌≤◌, ◌<◌, List, length, get_or, ap, ◌∙◌, subst}
+use Rattle.std.proofs.Common.{◌≤◌, ◌<◌, List, length, get_or, ap, ◌∙◌, subst, refl}
 use Rattle.dots_history.specs.declared.put.Target.{Target}
+use Rattle.installed_filters.specs.Filters.{putting}
 use Rattle.installed_filters.proofs.Copies.{copied_step, copied_end}
 use Rattle.installed_filters.proofs.staged.rows_of_put.Goals as goal
 
 pub loop-target-preserved : goal.loop-target-preserved
 loop-target-preserved c =
     copied_step
-    c.args.entry.now
+    (putting c.args.domain c.args.cuid.now c.args.put.now)
     c.loop-target.target-index
     c.args.put.now.targets
     c.target-item.result
@@ -21,10 +22,10 @@ loop-target-preserved c =
 pub returns : goal.returns
 returns c =
     copied_end
-    c.args.entry.now
+    (putting c.args.domain c.args.cuid.now c.args.put.now)
     c.args.put.now
     c.loop-target.target-index
     c.loop-target.rows.items
-    c.requires
+    refl
     (subst (λ (targets : List Target). length targets ≤ c.loop-target.target-index) c.items-target-items.ensures c.loop-target-test.false)
     c.loop-target.invariant

@@ -1,7 +1,11 @@
-use Rattle.std.proofs.Common.{inl, refl}
+use Rattle.std.proofs.Common.{inl, refl, sym, subst}
 use Rattle.std.proofs.lemmas.Result.{err_from_is_err_and}
 use Rattle.slot_store.proofs.Steps.{begins}
 use Rattle.slot_journal.specs.DiskEntries.{HasEntries}
+use Rattle.dots_registry.specs.Kept.{filed}
+use Rattle.dots_registry.specs.RegistryValues.{RegistryValue, IsOf}
+use Rattle.dots_registry.specs.LedgerValues.{Represents}
+use Rattle.dots_registry.specs.Beginning.{HasBegun}
 use Rattle.dots_registry.proofs.ledger.Ledger.begin.Goals as goal
 
 -- ---- before the disk is touched
@@ -22,9 +26,9 @@ returns-in_err-keep g c =
       beside = g.met.D.Disk.beside_same _;
     }
 
-pub returns-in_err-registry : goal.returns-in_err-registry
-returns-in_err-registry g c =
-    let p = err_from_is_err_and c.from_residual-in_err-registry.result c.from_residual-in_err-registry.ensures.1 in
+pub returns-in_err-gathering : goal.returns-in_err-gathering
+returns-in_err-gathering g c =
+    let p = err_from_is_err_and c.from_residual-in_err-gathering.result c.from_residual-in_err-gathering.ensures.1 in
     record {
       moments = λ seen entries rests image_has. begins (g.D.Disk.media c.args.disk.now) (λ image. HasEntries c.args.settings.now image entries);
       recovered = rw p.1 tt;
@@ -43,12 +47,7 @@ returns-in_err-registry g c =
 pub fill-requires : goal.fill-requires
 fill-requires g c = record {
   early = c.requires.early;
-  first = record {
-    is_of = c.in_ok-registry.ensures.settings;
-    represents_filed = c.in_ok-registry.ensures.filed;
-    calm = refl;
-    time = c.in_ok-registry.ensures.time;
-  };
+  first = c.in_ok-gathering.ensures;
   fewer = c.keep_list.ensures.fewer;
 }
 
@@ -66,10 +65,18 @@ returns-in-Err g c = record {
   beside = c.in-Err.ensures.beside;
 }
 
+pub into_registry-requires : goal.into_registry-requires
+into_registry-requires g c =
+    let begun = c.in-Ok.ensures.recovered in
+    record { filed = filed begun.entries; represents = begun.represents.represents_filed; room = c.in-Ok.ensures.room }
+
 pub returns-in-Ok : goal.returns-in-Ok
 returns-in-Ok g c = record {
   moments = c.in-Ok.ensures.moments;
-  recovered = c.in-Ok.ensures.recovered;
+  recovered = subst
+      (λ (r : RegistryValue). HasBegun c.args.settings.now c.args.at (g.D.Disk.media c.args.disk.now) (g.D.Disk.media c.fill.new.disk) (record { registry = r; journal = c.in-Ok.journal }))
+      (sym c.into_registry.ensures)
+      c.in-Ok.ensures.recovered;
   size = c.in-Ok.ensures.size;
   refused = tt;
   complete = tt;
@@ -87,7 +94,10 @@ invariant_of-result g c =
         settings = c.args.settings.now;
         history = begun.entries;
         entries = begun.entries;
-        represents = begun.represents;
+        represents = subst
+            (λ (r : RegistryValue). Represents (record { registry = r; journal = c.in-Ok.journal }) c.args.settings.now begun.entries begun.entries)
+            (sym c.into_registry.ensures)
+            begun.represents;
       },
-      c.in_ok-keep.ensures.room c.fill.new.registry begun.represents.is_of,
+      c.in_ok-keep.ensures.room c.into_registry.result (subst (IsOf c.args.settings.now) (sym c.into_registry.ensures) begun.represents.is_of),
     )

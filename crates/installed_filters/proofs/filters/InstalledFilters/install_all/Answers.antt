@@ -1,4 +1,4 @@
-use Rattle.std.proofs.Common.{arith, ◌≡◌, ◌++◌, List, length, map, ap, ◌∙◌}
+use Rattle.std.proofs.Common.{arith, ◌++◌, List, length, ap, ◌∙◌}
 use Rattle.std.proofs.lemmas.List.{length-map}
 use Rattle.filter_table.specs.TableRows.{row_set}
 use Rattle.acl_lists.specs.declared.rows.ScrubRow.{ScrubRow}
