@@ -97,8 +97,8 @@ module _ (next number mid : ℕ) (domain cuid : List ℕ) (named_domain : IsTrue
         ) in
         subst (λ head. ReadsAs head (canon (request_tree asked lifetime)) (asked_in domain cuid mid asked lifetime)) (sym asking_head) body
 
-    asking_message : IsMessage (forwarded next domain (passage_for cuid mid) (asking number cuid mid asked lifetime))
-    asking_message =
+    pub passed_asking : IsMessage (forwarded next domain (passage_for cuid mid) (asking number cuid mid asked lifetime))
+    passed_asking =
         let cdid = domain_length domain named_domain in
         let client = client_length cuid named in
         let digits = mid_length mid below in
@@ -158,8 +158,8 @@ module _ (next number mid : ℕ) (domain cuid : List ℕ) (named_domain : IsTrue
   withdrawing_means : Means (forwarded next domain (passage_for cuid mid) (withdrawing number cuid mid)) true (withdrawn_in domain cuid mid)
   withdrawing_means = subst (λ head. ReadsAs head [] (withdrawn_in domain cuid mid)) (sym withdrawing_head) refl
 
-  withdrawing_message : IsMessage (forwarded next domain (passage_for cuid mid) (withdrawing number cuid mid))
-  withdrawing_message =
+  pub passed_withdrawing : IsMessage (forwarded next domain (passage_for cuid mid) (withdrawing number cuid mid))
+  passed_withdrawing =
       let cdid = domain_length domain named_domain in
       let client = client_length cuid named in
       let digits = mid_length mid below in
@@ -209,7 +209,7 @@ pub asking_forwarded : (next number mid : ℕ) (domain cuid : List ℕ) (asked :
     (received_as (exchange_in (forwarded next domain (passage_for cuid mid) (asking number cuid mid asked lifetime))) (asked_in domain cuid mid asked lifetime))
 asking_forwarded next number mid domain cuid asked lifetime named_domain named below can lasts valid are =
     read_as (forwarded next domain (passage_for cuid mid) (asking number cuid mid asked lifetime)) true (asked_in domain cuid mid asked lifetime)
-    (asking_message next number mid domain cuid named_domain named below asked lifetime) refl (asking_means next number mid domain cuid named_domain named below asked lifetime can lasts valid) are
+    (passed_asking next number mid domain cuid named_domain named below asked lifetime) refl (asking_means next number mid domain cuid named_domain named below asked lifetime can lasts valid) are
 
 pub withdrawing_forwarded : (next number mid : ℕ) (domain cuid : List ℕ) → IsTrue (is_client_name domain) → IsTrue (is_client_name cuid) → mid < 2 ^ 32
     → AreBytes (spelling (forwarded next domain (passage_for cuid mid) (withdrawing number cuid mid)))
@@ -217,4 +217,4 @@ pub withdrawing_forwarded : (next number mid : ℕ) (domain cuid : List ℕ) →
     (received_as (exchange_in (forwarded next domain (passage_for cuid mid) (withdrawing number cuid mid))) (withdrawn_in domain cuid mid))
 withdrawing_forwarded next number mid domain cuid named_domain named below are =
     read_as (forwarded next domain (passage_for cuid mid) (withdrawing number cuid mid)) true (withdrawn_in domain cuid mid)
-    (withdrawing_message next number mid domain cuid named_domain named below) refl (withdrawing_means next number mid domain cuid named_domain named below) are
+    (passed_withdrawing next number mid domain cuid named_domain named below) refl (withdrawing_means next number mid domain cuid named_domain named below) are

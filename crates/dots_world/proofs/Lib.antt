@@ -23,3 +23,7 @@ pub mod Machine
 pub mod Acts
 pub mod Once
 pub mod FoundEntries
+pub mod Unwatched
+pub mod OnePassing
+pub mod OneReceiving
+pub mod OneWorld

@@ -70,7 +70,7 @@ history_of s = s.history
 
 -- ---- what asks nothing adds nothing
 
-asks_then : (kind : Kind) (id : ℕ) (empty class : Bool)
+pub asks_then : (kind : Kind) (id : ℕ) (empty class : Bool)
     → (if empty then Some (emptied kind id) else if not (may_ask kind) then Some dismissal.Ignored else if not class then Some (rejected kind id) else None) ≡ None
     → (may_ask kind && not empty && class) ≡ true
 asks_then kind id true class e = absurd (cc e)

@@ -25,7 +25,7 @@ one_integer (pos m) (negsuc n) e = absurd (cc e)
 one_integer (negsuc m) (pos n) e = absurd (cc e)
 one_integer (negsuc m) (negsuc n) e = cc
 
-one_tree : (mid other : ℕ) (lifetime last : ℤ) → granted_tree mid lifetime ≡ granted_tree other last → (mid ≡ other) × (lifetime ≡ last)
+pub one_tree : (mid other : ℕ) (lifetime last : ℤ) → granted_tree mid lifetime ≡ granted_tree other last → (mid ≡ other) × (lifetime ≡ last)
 one_tree mid other lifetime last e =
     let values : integer lifetime ≡ integer last = cc in
     (cc, one_integer lifetime last values)

@@ -6,3 +6,4 @@ pub mod Plans
 pub mod Worlds
 pub mod Granted
 pub mod Once
+pub mod OneWorld
