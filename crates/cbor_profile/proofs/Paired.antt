@@ -10,7 +10,7 @@ use Rattle.cbor_profile.specs.declared.fault.CborFault.TheVariants.{Duplicate}
 use Rattle.cbor_profile.specs.Tree.{Tree, pairs_of}
 use Rattle.cbor_profile.specs.Valid.{IsSound, KeysRise}
 use Rattle.cbor_profile.specs.declared.gathering.Gathered.{Gathered}
-use Rattle.cbor_profile.specs.Gathering.{gathered, IsGathered, IsKept}
+use Rattle.cbor_profile.specs.Gathering.{gathered, IsGathered, HasEncodings}
 use Rattle.cbor_profile.specs.Keys.{has_key, put}
 use Rattle.cbor_profile.proofs.Loops.{fails_then}
 use Rattle.cbor_profile.proofs.KeyOrder.{after_nothing}
@@ -48,14 +48,14 @@ pair_made read end pairs new bytes after rest key value good fresh second is = r
 
 -- ---- one more pair
 
-pub same_gathered : (old new : Gathered) → IsGathered old → gathered new ≡ gathered old → IsKept new → IsGathered new
+pub same_gathered : (old new : Gathered) → IsGathered old → gathered new ≡ gathered old → HasEncodings new → IsGathered new
 same_gathered old new before same kept = record {
   kept = kept;
   rise = subst (λ (l : List (Tree × Tree)). KeysRise (pairs_of l)) (sym same) before.rise;
   sound = subst (AllByRecursion (λ p. IsSound p.0)) (sym same) before.sound;
 }
 
-pub put_gathered : (old new : Gathered) (key value : Tree) → IsGathered old → IsSound key → has_key key (gathered old) ≡ false → gathered new ≡ put key value (gathered old) → IsKept new → IsGathered new
+pub put_gathered : (old new : Gathered) (key value : Tree) → IsGathered old → IsSound key → has_key key (gathered old) ≡ false → gathered new ≡ put key value (gathered old) → HasEncodings new → IsGathered new
 put_gathered old new key value before sound fresh is kept = record {
   kept = kept;
   rise = subst (λ (l : List (Tree × Tree)). KeysRise (pairs_of l)) (sym is) (put_rises [] (gathered old) key value before.rise (after_nothing key) fresh);

@@ -28,12 +28,12 @@ abbrev pub gathered : Gathered → List (Tree × Tree)
 gathered (gathered_as.Rising list) = tree_pairs list
 gathered (gathered_as.ByEncoding pairs) = encoded_pairs pairs.entries
 
-abbrev pub IsKept : Gathered → Type 0
-IsKept (gathered_as.Rising list) = Unit {0}
-IsKept (gathered_as.ByEncoding pairs) = AreEncoded pairs.entries
+abbrev pub HasEncodings : Gathered → Type 0
+HasEncodings (gathered_as.Rising list) = Unit {0}
+HasEncodings (gathered_as.ByEncoding pairs) = AreEncoded pairs.entries
 
 pub record IsGathered (pairs : Gathered) : Type 0 where
-  pub kept : IsKept pairs
+  pub kept : HasEncodings pairs
   pub rise : KeysRise (pairs_of (gathered pairs))
   pub sound : AllByRecursion (λ p. IsSound p.0) (gathered pairs)
 

@@ -10,7 +10,7 @@ ghost use Rattle.cbor_profile.specs.Canon.{canon};
 ghost use Rattle.cbor_profile.specs.Valid.{IsSound, KeysRise};
 ghost use Rattle.cbor_profile.specs.ItemTrees.{tree_of, tree_pairs, pair_of};
 ghost use Rattle.cbor_profile.specs.Keys.{has_key, put};
-ghost use Rattle.cbor_profile.specs.Gathering.{encoded_pairs, AreEncoded, gathered, IsGathered, IsKept, AllBefore, IsAtEncoding, IsOpenFor};
+ghost use Rattle.cbor_profile.specs.Gathering.{encoded_pairs, AreEncoded, gathered, IsGathered, HasEncodings, AllBefore, IsAtEncoding, IsOpenFor};
 
 use crate::item::{Item, PairList};
 use crate::order::compare;
@@ -57,7 +57,7 @@ impl Gathered {
         ensures taken { IfOk result (λ place. IfNone place (has_key (tree_of key.now) (gathered self.old) ≡ true)) }
         ensures fresh { IfOk result (λ place. IfSome place (λ _. has_key (tree_of key.now) (gathered self.old) ≡ false)) }
         ensures same { OnOk result (gathered self.new ≡ gathered self.old) }
-        ensures kept { OnOk result (IsKept self.new) }
+        ensures kept { OnOk result (HasEncodings self.new) }
         ensures open { IfOk result (λ place. IfSome place (IsOpenFor self.new (tree_of key.now))) }
     {
         match self {
@@ -77,11 +77,11 @@ impl Gathered {
 
     /// Puts a pair with a new key in its place.
     pub fn put(&mut self, place: Place, key: Item, value: Item) -> Result<(), NoMemory>
-        requires kept { IsKept self.old }
+        requires kept { HasEncodings self.old }
         requires fresh { has_key (tree_of key) (gathered self.old) ≡ false }
         requires open { IsOpenFor self.old (tree_of key) place }
         ensures pairs { OnOk result (gathered self.new ≡ put (tree_of key) (tree_of value) (gathered self.old)) }
-        ensures kept { OnOk result (IsKept self.new) }
+        ensures kept { OnOk result (HasEncodings self.new) }
     {
         match self {
             Gathered::Rising(list) => match place {

@@ -12,7 +12,7 @@ use Rattle.dots_edge.specs.declared.connections.Connections.{Connections}
 use Rattle.dots_edge.specs.declared.gone.Gone.{Gone}
 use Rattle.dots_edge.specs.Events.{SameCame}
 use Rattle.dots_edge.specs.Logs.{IfBoth}
-use Rattle.dots_edge.specs.Idle.{is_kept}
+use Rattle.dots_edge.specs.Idle.{is_unwritten}
 use Rattle.dots_edge.specs.Passing.{is_stale}
 use Rattle.dots_edge.specs.Places.{at_place, is_opened, is_open, SameBeside, Follows, marked, stale_at, ends_at, swept, CameAt}
 use Rattle.dots_edge.specs.Gone.{WentFrom, HasStopped, HasGone, IsOver, HasComeOn, GoesOn, AreOn}
@@ -81,7 +81,7 @@ on_by false false connection is = (is, (refl, omega arith))
 
 pub goes_on_swept : (now : Duration) (place : Option Connection) → GoesOn place (swept now place)
 goes_on_swept now None is = cc
-goes_on_swept now (Some connection) is = on_by (is_stale connection.moved connection.asked now) (is_kept connection) connection is
+goes_on_swept now (Some connection) is = on_by (is_stale connection.moved connection.asked now) (is_unwritten connection) connection is
 
 -- ---- what goes
 

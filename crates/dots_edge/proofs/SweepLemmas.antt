@@ -4,7 +4,7 @@ use Rattle.std.proofs.lemmas.Bool.{cases_eq}
 use Rattle.std.specs.declared.time.Duration.{Duration}
 use Rattle.dots_edge.specs.declared.connection.Connection.{Connection}
 use Rattle.dots_edge.specs.declared.connections.Connections.{Connections}
-use Rattle.dots_edge.specs.Idle.{is_kept}
+use Rattle.dots_edge.specs.Idle.{is_unwritten}
 use Rattle.dots_edge.specs.Passing.{is_stale}
 use Rattle.dots_edge.specs.Places.{at_place, is_opened, is_open, SameBeside, SameOpen, marked, swept, ends_at, AreSwept, NoneEnds}
 
@@ -41,7 +41,7 @@ opened_by false false connection none = refl
 -- where none is told to end, what was open is open still
 opened_swept : (now : Duration) (found : Option Connection) → ends_at now found ≡ false → is_opened (swept now found) ≡ is_opened found
 opened_swept now None none = refl
-opened_swept now (Some connection) none = opened_by (is_stale connection.moved connection.asked now) (is_kept connection) connection none
+opened_swept now (Some connection) none = opened_by (is_stale connection.moved connection.asked now) (is_unwritten connection) connection none
 
 pub same_open_swept : (old new : Connections) (now : Duration) (at : ℕ) → at_place new at ≡ swept now (at_place old at) → SameBeside old at new → ends_at now (at_place old at) ≡ false → SameOpen old new
 same_open_swept old new now at here beside none conn =

@@ -4,20 +4,20 @@ use Rattle.dots_edge.specs.Answers.{is_exhausted}
 use Rattle.dots_edge.specs.declared.connection.Connection.{Connection}
 
 -- whether something of what was sent is kept
-abbrev pub is_kept : Connection → Bool
-is_kept connection = not (length connection.rest.bytes.items == 0)
+abbrev pub is_unwritten : Connection → Bool
+is_unwritten connection = not (length connection.rest.bytes.items == 0)
 
 -- A turn gives nothing: where something is kept, the socket takes none of it, and else it has nothing to read. Neither has a connection that is of no
 -- use any more, or that the server has closed and of which nothing is kept.
 abbrev pub is_idle : Connection → Bool
 is_idle connection =
-    not connection.broken && (if is_kept connection then not connection.takes else not connection.ready && not connection.closing)
+    not connection.broken && (if is_unwritten connection then not connection.takes else not connection.ready && not connection.closing)
 
 -- What isn't tried is known from the socket: it had nothing to read at the last read, and took nothing at the last write.
 abbrev pub is_sound : Connection → Bool
 is_sound connection =
     (connection.ready || is_exhausted connection.came.answers)
-    && (connection.takes || not (is_kept connection) || is_exhausted connection.taken.answers)
+    && (connection.takes || not (is_unwritten connection) || is_exhausted connection.taken.answers)
 
 -- how often the socket was read or written to
 abbrev pub calls_of : Connection → ℕ
@@ -54,4 +54,4 @@ WasTried old new = (idle_at new ≡ true) ⊎ (calls_at old < calls_at new)
 -- The socket of the connection had nothing to read at the last read, or took nothing of what is kept at the last write.
 abbrev pub is_spent : Option Connection → Bool
 is_spent None = true
-is_spent (Some connection) = if is_kept connection then is_exhausted connection.taken.answers else is_exhausted connection.came.answers
+is_spent (Some connection) = if is_unwritten connection then is_exhausted connection.taken.answers else is_exhausted connection.came.answers

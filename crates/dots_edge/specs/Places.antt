@@ -10,8 +10,8 @@ use Rattle.dots_host.specs.declared.event.What.TheVariants as what
 use Rattle.std.specs.declared.time.Duration.{Duration}
 use Rattle.dots_edge.specs.declared.connection.Connection.{Connection}
 use Rattle.dots_edge.specs.Passing.{is_stale}
-use Rattle.dots_edge.specs.Sends.{TookOrKept, IsLost}
-use Rattle.dots_edge.specs.Idle.{is_kept, idle_at, is_spent, WasTried}
+use Rattle.dots_edge.specs.Sends.{TookOrRests, IsLost}
+use Rattle.dots_edge.specs.Idle.{is_unwritten, idle_at, is_spent, WasTried}
 use Rattle.dots_edge.specs.declared.connections.Connections.{Connections}
 
 -- the connection at the place, where one is
@@ -123,9 +123,9 @@ marked None = None
 marked (Some connection) = Some (record connection { ready = true; takes = true })
 
 -- whether something is kept there
-abbrev pub kept_at : Option Connection → Bool
-kept_at None = false
-kept_at (Some connection) = is_kept connection
+abbrev pub unwritten_at : Option Connection → Bool
+unwritten_at None = false
+unwritten_at (Some connection) = is_unwritten connection
 
 -- whether it was idle there or left its sender without an answer for too long
 abbrev pub stale_at : Duration → Option Connection → Bool
@@ -134,7 +134,7 @@ stale_at now (Some connection) = is_stale connection.moved connection.asked now
 
 -- what is kept is tried again
 abbrev pub retried : Option Connection → Option Connection
-retried place = if kept_at place then marked place else place
+retried place = if unwritten_at place then marked place else place
 
 -- a connection that is stale goes, and what is kept of any other is tried again
 abbrev pub swept : Duration → Option Connection → Option Connection
@@ -179,7 +179,7 @@ OnPiece _ P = ⊤
 -- What a send at a place leaves. What is done goes behind all that was sent before, and what the socket hasn't taken of it is kept. Where it is lost no
 -- connection is open for the server there, and nothing changes, or the connection is of no use any more.
 abbrev pub IsSentAt : Option Connection → List ℕ → Sent → Option Connection → Type 0
-IsSentAt (Some old) bytes sent.Done (Some new) = (old.closing ≡ false) × TookOrKept old bytes new
+IsSentAt (Some old) bytes sent.Done (Some new) = (old.closing ≡ false) × TookOrRests old bytes new
 IsSentAt (Some old) bytes sent.Lost (Some new) = ((old.closing ≡ true) × (new ≡ old)) ⊎ IsLost new
 IsSentAt None bytes sent.Lost None = ⊤
 IsSentAt _ bytes _ _ = ⊥
@@ -188,4 +188,4 @@ IsSentAt _ bytes _ _ = ⊥
 abbrev pub closed_at : Option Connection → Option Connection
 closed_at None = None
 closed_at (Some connection) =
-    if connection.closing then Some connection else (if is_kept connection then Some (record connection { closing = true }) else None)
+    if connection.closing then Some connection else (if is_unwritten connection then Some (record connection { closing = true }) else None)

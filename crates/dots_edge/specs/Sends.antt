@@ -15,8 +15,8 @@ abbrev pub TookOn : Connection → Connection → Type 0
 TookOn old new = (all_sent new ≡ all_sent old) × (length old.taken.bytes ≤ length new.taken.bytes)
 
 -- these were sent behind all others; of what was kept and of these the socket took the first bytes, or none, and the others are kept
-abbrev pub TookOrKept : Connection → List ℕ → Connection → Type 0
-TookOrKept old bytes new = (all_sent new ≡ all_sent old ++ bytes) × (length old.taken.bytes ≤ length new.taken.bytes)
+abbrev pub TookOrRests : Connection → List ℕ → Connection → Type 0
+TookOrRests old bytes new = (all_sent new ≡ all_sent old ++ bytes) × (length old.taken.bytes ≤ length new.taken.bytes)
 
 -- it is of no use any more, and nothing is kept
 abbrev pub IsLost : Connection → Type 0

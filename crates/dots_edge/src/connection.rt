@@ -1,8 +1,8 @@
 ghost use Rattle.std.specs.Prelude.{◌≡◌, ◌==◌, ◌<◌, ◌≤◌, ◌+◌, ◌∷◌, ◌++◌, ◌⊎◌, [], length, drop, true, false, not, None, Some, unwrap_or, if◌then◌else◌, is_ok, OnOk};
 ghost use Rattle.dots_edge.specs.Answers.{went, HasEnded};
 ghost use Rattle.dots_edge.specs.Events.{IsPiece, AfterRead, OnBytes, OnNoBytes, SameCame, HasRead};
-ghost use Rattle.dots_edge.specs.Sends.{TookOn, TookOrKept, TookAll, IsLost, HasWrittenOn, HasTried};
-ghost use Rattle.dots_edge.specs.Idle.{is_kept, is_idle, is_sound, calls_of};
+ghost use Rattle.dots_edge.specs.Sends.{TookOn, TookOrRests, TookAll, IsLost, HasWrittenOn, HasTried};
+ghost use Rattle.dots_edge.specs.Idle.{is_unwritten, is_idle, is_sound, calls_of};
 ghost use Rattle.dots_edge.specs.Passing.{is_stale};
 ghost use Rattle.dots_edge.specs.Gone.{gone_of};
 
@@ -283,7 +283,7 @@ impl Connection {
         ensures done { result ≡ Sent.Done → (self.old.broken ≡ false) × (self.new.broken ≡ false)
             × (self.new.moved ≡ now) × (self.new.asked ≡ None) × (self.new.ready ≡ self.old.ready) }
         // The bytes go behind all others, and what the socket hasn't taken of them is kept.
-        ensures sent { result ≡ Sent.Done → TookOrKept self.old bytes.now self.new }
+        ensures sent { result ≡ Sent.Done → TookOrRests self.old bytes.now self.new }
         ensures lost { result ≡ Sent.Lost → (self.new.broken ≡ true) × (self.new.ready ≡ true) }
         ensures left { result ≡ Sent.Lost → self.new.rest.bytes.items ≡ [] }
         ensures closing { self.new.closing ≡ self.old.closing }
@@ -304,7 +304,7 @@ impl Connection {
     /// Gives the rest to the socket, and the bytes where that leaves none. Keeps what the socket doesn't take now.
     fn give(&mut self, bytes: &[u8]) -> io::Result<()>
         ensures kept { self.new ≡ record self.old { takes = self.new.takes; taken = self.new.taken; rest = self.new.rest } }
-        ensures sent { OnOk result (TookOrKept self.old bytes.now self.new) }
+        ensures sent { OnOk result (TookOrRests self.old bytes.now self.new) }
         ensures takes { OnOk result (self.new.takes ≡ true) }
         // Where the socket takes all at once nothing fails, and nothing is kept.
         ensures all { self.old.rest.bytes.items ≡ [] → TookAll self.old bytes.now self.new →
@@ -326,8 +326,8 @@ impl Connection {
     /// Has waits tell when the socket takes more, too, while there is a rest.
     fn watch(&mut self, registry: &Registry) -> io::Result<()>
         ensures kept { self.new ≡ record self.old { watches_writes = self.new.watches_writes } }
-        ensures watches { OnOk result (self.new.watches_writes ≡ is_kept self.old) }
-        ensures same { self.old.watches_writes ≡ is_kept self.old → is_ok result ≡ true }
+        ensures watches { OnOk result (self.new.watches_writes ≡ is_unwritten self.old) }
+        ensures same { self.old.watches_writes ≡ is_unwritten self.old → is_ok result ≡ true }
     {
         let wanted = !self.rest.is_empty();
         if wanted == self.watches_writes {
@@ -355,7 +355,7 @@ impl Connection {
 
     /// Whether something is kept.
     pub fn has_rest(&self) -> bool
-        ensures { result ≡ is_kept self.now }
+        ensures { result ≡ is_unwritten self.now }
     {
         !self.rest.is_empty()
     }

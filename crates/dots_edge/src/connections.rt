@@ -38,7 +38,7 @@ pub struct Connections {
 }
 
 impl Connections {
-    ghost use Rattle.dots_edge.specs.Places.{at_place, is_open, closing_since, AreTaken, MovedFirst, IsForOneMore, AreOpen, NoneCloses, SameBeside, SameOpen, OthersStay, ClosesAt, Follows, marked, kept_at, stale_at, retried, swept, ends_at, AreSwept, NoneEnds, AreTried, AreIdle, AreSpent, CameAt, OnPiece, IsSentAt, closed_at};
+    ghost use Rattle.dots_edge.specs.Places.{at_place, is_open, closing_since, AreTaken, MovedFirst, IsForOneMore, AreOpen, NoneCloses, SameBeside, SameOpen, OthersStay, ClosesAt, Follows, marked, unwritten_at, stale_at, retried, swept, ends_at, AreSwept, NoneEnds, AreTried, AreIdle, AreSpent, CameAt, OnPiece, IsSentAt, closed_at};
     ghost use Rattle.dots_edge.specs.Gone.{WentFrom, HasStopped, HasGone, HasComeOn, GoesOn, AreOn};
 
     /// Places for connections, none of which is open.
@@ -371,7 +371,7 @@ impl Connections {
     }
 
     fn has_rest(&self, place: usize) -> bool
-        ensures { result ≡ kept_at (at_place self.now place) }
+        ensures { result ≡ unwritten_at (at_place self.now place) }
     {
         match self.places.get(place) {
             Some(Some(connection)) => connection.has_rest(),

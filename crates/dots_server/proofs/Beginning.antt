@@ -40,7 +40,7 @@ use Rattle.stream_table.specs.Lines.{PeerLines, peer_in, no_lines}
 use Rattle.stream_table.specs.Places.{AreApart}
 use Rattle.stream_table.proofs.Apart.{apart_begun}
 use Rattle.dots_machine.specs.Machine.{State, begun_from, restarted}
-use Rattle.dots_server.specs.ServerValues.{ServerValue, observers_of, ledger_of, IsKept, IsServing}
+use Rattle.dots_server.specs.ServerValues.{ServerValue, observers_of, ledger_of, RestartsWith, IsServing}
 
 -- ---- a server begins
 
@@ -56,8 +56,8 @@ module _ (settings : SettingsValue) (at : ℕ) (tables : LedgerValue) (held : Li
   abbrev begun : ServerValue
   begun = record { settings = settings; registry = tables.registry; journal = tables.journal; watch = watch; lines = lines }
 
-  pub begun_kept : IsKept begun settings (restarted settings (begun_from settings held) at) held
-  begun_kept =
+  pub begun_restarts : RestartsWith begun settings (restarted settings (begun_from settings held) at) held
+  begun_restarts =
       let young = early_calm settings held represents.calm in record {
         represents = record {
           represents = record {
@@ -83,7 +83,7 @@ module _ (settings : SettingsValue) (at : ℕ) (tables : LedgerValue) (held : Li
   begun_lives = record {
     state = restarted settings (begun_from settings held) at;
     entries = held;
-    represents = begun_kept.represents;
+    represents = begun_restarts.represents;
     notified = subst (λ (v : ObserversValue). AreNotified (views_of tables.registry) watch.due v.observed) (sym unobserved) tt;
     rows = ap (map peer_in) closed;
     apart = subst AreApart (sym closed) (apart_begun settings.peers);
@@ -116,7 +116,7 @@ within_to low high more [] le within = omega (arith, le, within)
 within_to low high more (e ∷ later) le within = (within.0, within_to e.time high more later le within.1)
 
 -- what was kept on the disk is all that is needed of the history, whatever the time
-module _ (settings : SettingsValue) (at : ℕ) (old new : ServerValue) (state : State) (entries : List Entry) (kept : IsKept old settings state entries) (begun_anew : IsKept new settings (restarted settings (begun_from settings entries) at) entries) where
+module _ (settings : SettingsValue) (at : ℕ) (old new : ServerValue) (state : State) (entries : List Entry) (kept : RestartsWith old settings state entries) (begun_anew : RestartsWith new settings (restarted settings (begun_from settings entries) at) entries) where
   same_time : last_time entries ≡ last_time state.history
   same_time = same_last settings.limits.remembered (last_time state.history) entries state.history kept.rests
 
@@ -138,8 +138,8 @@ module _ (settings : SettingsValue) (at : ℕ) (old new : ServerValue) (state : 
   whole : ledger.Represents (ledger_of new) settings state.history entries
   whole = ledger_whole (ledger_of new) settings entries state.history begun_anew.represents.ledger kept_now kept.represents.represents.own within_now
 
-  pub restarted_kept : IsKept new settings (restarted settings state at) entries
-  restarted_kept =
+  pub restarted_restarts : RestartsWith new settings (restarted settings state at) entries
+  restarted_restarts =
       let young = begun_anew.represents.represents.early in record {
         represents = record {
           represents = record {
@@ -192,7 +192,7 @@ restart_sized given server extent faults.NoMemory same slots small large = tt
 
 -- ---- a restart finds what was left, under the settings that the server had
 
-module _ (settings given : SettingsValue) (same : given ≡ settings) (old : ServerValue) (state : State) (entries : List Entry) (kept : IsKept old settings state entries) (media media_new : Option Media)
+module _ (settings given : SettingsValue) (same : given ≡ settings) (old : ServerValue) (state : State) (entries : List Entry) (kept : RestartsWith old settings state entries) (media media_new : Option Media)
     (rests : RestsWith media (journal.Represents old.journal settings entries)) where
   pub restart_moments : ((seen : ℕ → ℕ) (held : List Entry) → RestsWith media (Is seen) → HasEntries given seen held → Leaves media media_new (λ image. HasEntries given image held))
       → Leaves media media_new (λ image. HasEntries settings image entries)
@@ -209,19 +209,19 @@ module _ (settings given : SettingsValue) (same : given ≡ settings) (old : Ser
       (represents_has old.journal settings entries seen represents) kept.represents.ledger.calm size
 
   module _ (at : ℕ) (new : ServerValue) where
-    found_same : (held : List Entry) → IsKept new settings (restarted settings (begun_from settings held) at) held
+    found_same : (held : List Entry) → RestartsWith new settings (restarted settings (begun_from settings held) at) held
         → ((seen : ℕ → ℕ) → Sees media seen → HasEntries settings seen held × RestsWith media_new (journal.Represents new.journal settings held))
-        → IsKept new settings (restarted settings state at) entries × RestsWith media_new (journal.Represents new.journal settings entries)
+        → RestartsWith new settings (restarted settings state at) entries × RestsWith media_new (journal.Represents new.journal settings entries)
     found_same held begun found =
         let (seen, sees, is, represents) = seen_of media (journal.Represents old.journal settings entries) rests in
         let one = same_found settings media old.journal entries held rests (λ seen sees. (found seen sees).0) in (
-          restarted_kept settings at old new state entries kept (subst (λ es. IsKept new settings (restarted settings (begun_from settings es) at) es) one begun),
+          restarted_restarts settings at old new state entries kept (subst (λ es. RestartsWith new settings (restarted settings (begun_from settings es) at) es) one begun),
           subst (λ es. RestsWith media_new (journal.Represents new.journal settings es)) one (found seen sees).1,
         )
 
-    pub restart_found : (held : List Entry) → IsKept new given (restarted given (begun_from given held) at) held
+    pub restart_found : (held : List Entry) → RestartsWith new given (restarted given (begun_from given held) at) held
         → ((seen : ℕ → ℕ) → Sees media seen → HasEntries given seen held × RestsWith media_new (journal.Represents new.journal given held))
-        → IsKept new settings (restarted settings state at) entries × RestsWith media_new (journal.Represents new.journal settings entries)
+        → RestartsWith new settings (restarted settings state at) entries × RestsWith media_new (journal.Represents new.journal settings entries)
     restart_found held begun found =
-        found_same held (subst (λ s. IsKept new s (restarted s (begun_from s held) at) held) same begun)
+        found_same held (subst (λ s. RestartsWith new s (restarted s (begun_from s held) at) held) same begun)
         (subst (λ s. (seen : ℕ → ℕ) → Sees media seen → HasEntries s seen held × RestsWith media_new (journal.Represents new.journal s held)) same found)

@@ -14,11 +14,11 @@ use Rattle.slot_journal.specs.Kept.{HasKept}
 use Rattle.rest_answers.specs.Turns.{entries_of}
 use Rattle.dots_machine.specs.Machine.{State, AnswersFront, receiving}
 use Rattle.dots_machine.proofs.Fronts.{front_history, front_time}
-use Rattle.dots_server.specs.ServerValues.{ServerValue, IsKept}
+use Rattle.dots_server.specs.ServerValues.{ServerValue, RestartsWith}
 use Rattle.dots_server.specs.Turning.{HasTurn, Turned, Broke, Stored, LiesOn, IsStored, Grows, last_left, Chained}
 use Rattle.dots_server.specs.Taking.{stored_of}
 use Rattle.dots_server.specs.Pieces.{FrontRests, FrontBroke, PieceAnswered, TurnsTaken, PieceTaken, PieceBroke}
-use Rattle.dots_server.proofs.Looping.{kept_stored}
+use Rattle.dots_server.proofs.Looping.{restarts_stored}
 use Rattle.dots_server.proofs.Turning.{broke_more}
 
 -- ---- a turn from other states with these histories
@@ -112,7 +112,7 @@ module _ (settings : SettingsValue) (time : ℕ) where
 -- ---- the turns of a piece
 
 module _ (settings : SettingsValue) (conn : ℕ) (piece : List ℕ) (state : State) (old : ServerValue) (entries : List Entry) (media : Option Media) (acts : Option (List Timed)) where
-  pub none_taken : IsKept old settings state entries → TurnsTaken settings conn piece piece state old old entries media media acts acts
+  pub none_taken : RestartsWith old settings state entries → TurnsTaken settings conn piece piece state old old entries media media acts acts
   none_taken kept = record { turns = []; reached = state; few = entries; fronts = refl; kept = kept; chained = (refl, refl, refl); time = refl; left = refl }
 
   module _ (rest : List ℕ) (now next : ServerValue) (there media_new : Option Media) (told acts_new : Option (List Timed))
@@ -134,7 +134,7 @@ module _ (settings : SettingsValue) (conn : ℕ) (piece : List ℕ) (state : Sta
           kept = one.kept;
           chained = chained_more settings state.time state (stored_of old entries) so_far.turns (stored_of now so_far.few) (stored_of next one.few) turn media there media_new acts told acts_new so_far.chained time_is
               (subst (λ es. Grows es one.new.history) so_far.left grown)
-              (subst (λ t. IsStored settings t one.new.history one.few) time_is (kept_stored next settings one.new one.few one.kept))
+              (subst (λ t. IsStored settings t one.new.history one.few) time_is (restarts_stored next settings one.new one.few one.kept))
               (turned_as settings so_far.reached (last_left state so_far.turns) one.new to so_far.left refl refl (LiesOn settings (stored_of now so_far.few)) there media_new told acts_new one.sends
               (LiesOn settings (stored_of next one.few)) one.turned);
           time = time_is;

@@ -8,7 +8,7 @@ use Rattle.stream_table.specs.Places.{AreApart, NowBuffers}
 use Rattle.stream_table.proofs.Apart.{apart_opened, apart_forgotten}
 use Rattle.stream_table.proofs.Clients.{opened_of, forgotten_of, buffering_of}
 use Rattle.dots_machine.specs.Machine.{State}
-use Rattle.dots_server.specs.ServerValues.{ServerValue, RepresentsWith, IsKept, IsServing}
+use Rattle.dots_server.specs.ServerValues.{ServerValue, RepresentsWith, RestartsWith, IsServing}
 use Rattle.dots_server.proofs.Rows.{apart_buffering}
 
 module _ (becomes : List PeerLines → List PeerLines) (old : ServerValue) where
@@ -39,9 +39,9 @@ module _ (becomes : List PeerLines → List PeerLines) (old : ServerValue) where
         slots = represents.slots;
       }
 
-  pub lines_kept : (settings : SettingsValue) (state : State) (entries : List Entry) → IsKept old settings state entries
-      → IsKept with_lines settings (lines_become state) entries
-  lines_kept settings state entries kept = record { represents = lines_represent settings state entries kept.represents; rests = kept.rests }
+  pub lines_restarts : (settings : SettingsValue) (state : State) (entries : List Entry) → RestartsWith old settings state entries
+      → RestartsWith with_lines settings (lines_become state) entries
+  lines_restarts settings state entries kept = record { represents = lines_represent settings state entries kept.represents; rests = kept.rests }
 
   lines_live : IsServing old → AreOf old.settings.peers (becomes old.lines) → AreApart (becomes old.lines) → IsServing with_lines
   lines_live serving of apart = record {

@@ -21,12 +21,12 @@ use Rattle.dots_machine.specs.Machine.{State, later, after, with_entry, lapsed, 
 use Rattle.dots_machine.proofs.Fronts.{owed_then}
 use Rattle.dots_machine.proofs.Hearing.{answer_time, hears_time}
 use Rattle.dots_machine.proofs.Observing.{notified_history, notified_time}
-use Rattle.dots_server.specs.ServerValues.{ServerValue, IsKept}
+use Rattle.dots_server.specs.ServerValues.{ServerValue, RestartsWith}
 use Rattle.dots_server.specs.HearingPeers.{met, beaten}
 use Rattle.dots_server.specs.Turning.{Turned, Wrote, Broke, Stored, LiesOn, IsStored, Grows, last_left, Chained}
 use Rattle.dots_server.specs.Taking.{stored_of, Took, BrokeOff, Answered, Failing, DatagramTaken, DatagramBroke}
 use Rattle.dots_server.specs.Signals.{HasLapsed, LapseBroke}
-use Rattle.dots_server.proofs.Looping.{kept_stored}
+use Rattle.dots_server.proofs.Looping.{restarts_stored}
 use Rattle.dots_server.proofs.Turning.{unwritten, wrote_turned}
 use Rattle.dots_server.proofs.Chaining.{last_more, last_from, chained_more, chained_from, broke_as}
 
@@ -49,7 +49,7 @@ met_grows settings false peer state = ([], sym (append-nil state.history))
 -- The peer was met, and that was written.
 module _ (settings : SettingsValue) (state here : State) (peer : ℕ) (datagram : List ℕ) (hears : Hears settings state peer datagram here) (grows : Grows state.history here.history)
     (old mid : ServerValue) (entries few : List Entry) (media there : Option Media) (acts told : Option (List Timed)) where
-  module _ (kept : IsKept mid settings here few) (moment : ℕ) (at : IsMoment moment there)
+  module _ (kept : RestartsWith mid settings here few) (moment : ℕ) (at : IsMoment moment there)
       (wrote : Wrote settings state here (journal.Represents old.journal settings entries) (journal.Represents mid.journal settings few) media there acts told) where
     abbrev first : Turn State
     first = record { sends = []; left = here }
@@ -58,7 +58,7 @@ module _ (settings : SettingsValue) (state here : State) (peer : ℕ) (datagram 
     first_turned = wrote_turned settings state here (LiesOn settings (stored_of old entries)) (LiesOn settings (stored_of mid few)) media there moment acts told at wrote
 
     first_stored : IsStored settings here.time here.history few
-    first_stored = kept_stored mid settings here few kept
+    first_stored = restarts_stored mid settings here few kept
 
     -- and it was answered
     pub datagram_taken : (now : ServerValue) (media_now : Option Media) (acts_now : Option (List Timed)) → Answered settings state here peer datagram mid now few there media_now told acts_now
@@ -88,7 +88,7 @@ module _ (settings : SettingsValue) (state here : State) (peer : ℕ) (datagram 
               acts_now,
               refl,
               a.grows,
-              kept_stored now settings a.new a.few a.kept,
+              restarts_stored now settings a.new a.few a.kept,
               a.turned,
               (refl, refl, refl),
             ),
@@ -197,7 +197,7 @@ module _ (settings : SettingsValue) (at : ℕ) (state : State) (old moved : Serv
 
   module _ (taken next : ServerValue) (media there media_new : Option Media) (acts told acts_new : Option (List Timed)) (moment last : ℕ)
       (l : HasLapsed settings now moved taken entries media there acts told) (notices : List OwnedOut) (new : State) (notified : Notified settings (lapsed settings now) notices new)
-      (kept : IsKept next settings (beaten settings new) l.few) (journal_is : next.journal ≡ taken.journal) (here : IsMoment moment there)
+      (kept : RestartsWith next settings (beaten settings new) l.few) (journal_is : next.journal ≡ taken.journal) (here : IsMoment moment there)
       (sent : Added told acts_new (SentTo moment last (notices ++ beats (beating settings new) new.time new.contacts))) (keeps : KeepsMedia there media_new) where
     abbrev sends : List OwnedOut
     sends = notices ++ beats (beating settings new) new.time new.contacts
@@ -236,6 +236,6 @@ module _ (settings : SettingsValue) (at : ℕ) (state : State) (old moved : Serv
       chained = subst (λ t. Chained settings t state (stored_of old entries) (l.steps ++ final ∷ []) (stored_of next l.few) media media_new acts acts_new) (sym time_is)
           (chained_more settings now.time state (stored_of old entries) l.steps (stored_of taken l.few) (stored_of next l.few) final media there media_new acts told acts_new
           (chained_back now.time l.steps (stored_of taken l.few) media there acts told l.chained) time_is ([], history_is ∙ sym (append-nil (last_left state l.steps).history))
-          (subst (λ t. IsStored settings t left.history l.few) time_is (kept_stored next settings left l.few kept)) final_turn);
+          (subst (λ t. IsStored settings t left.history l.few) time_is (restarts_stored next settings left l.few kept)) final_turn);
       left = sym (ap (λ (s : State). s.history) (last_more state l.steps final));
     }

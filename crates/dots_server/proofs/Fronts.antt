@@ -25,11 +25,11 @@ use Rattle.rest_answers.specs.Turns.{RestFront, is_waiting, reply_in, closing, s
 use Rattle.rest_answers.proofs.Turning.{turn_stays}
 use Rattle.session_core.specs.Notifying.{SentTo}
 use Rattle.dots_machine.specs.Machine.{State, AnswersFront, receiving}
-use Rattle.dots_server.specs.ServerValues.{ServerValue, IsKept}
+use Rattle.dots_server.specs.ServerValues.{ServerValue, RestartsWith}
 use Rattle.dots_server.specs.Turning.{Turned, TurnedTo, Broke}
-use Rattle.dots_server.specs.Pieces.{StandsThere, having, IsAcceptedBy, FrontAnswered, FrontRests, IsFrontTaken, FrontBroke, PieceAnswered, IsPieceTaken}
+use Rattle.dots_server.specs.Pieces.{IsFrontAt, having, IsAcceptedBy, FrontAnswered, FrontRests, IsFrontTaken, FrontBroke, PieceAnswered, IsPieceTaken}
 use Rattle.dots_server.proofs.Rows.{apart_buffering, buffering_nowhere, pieces_joined, held_all}
-use Rattle.dots_server.proofs.Connecting.{lines_kept}
+use Rattle.dots_server.proofs.Connecting.{lines_restarts}
 use Rattle.dots_server.proofs.Turning.{unwritten, notices_behind, turned_from}
 use Rattle.dots_server.proofs.Chaining.{broke_as}
 
@@ -52,11 +52,11 @@ having_is (answer.Accept reply entry) becomes state = refl
 
 -- ---- a turn, by what stands there
 
-module _ (settings : SettingsValue) (conn : ℕ) (place : LinePlace) (old : ServerValue) (at : IsAt conn place old.lines) (state : State) (entries : List Entry) (kept : IsKept old settings state entries) where
+module _ (settings : SettingsValue) (conn : ℕ) (place : LinePlace) (old : ServerValue) (at : IsAt conn place old.lines) (state : State) (entries : List Entry) (kept : RestartsWith old settings state entries) where
   line_there : line_of conn state.lines ≡ Some at.line
   line_there = ap (line_of conn) (sym kept.represents.represents.lines) ∙ at.found
 
-  front_turn : (front : RestFront) → StandsThere settings conn state at.line front → is_waiting front ≡ false → (new : State)
+  front_turn : (front : RestFront) → IsFrontAt settings conn state at.line front → is_waiting front ≡ false → (new : State)
       → new ≡ record state { history = state.history ++ entries_of front; lines = lines_behind conn front state.lines } → AnswersFront settings conn state (sends_of conn front) new
   front_turn front stands due new is = (
     state.history ++ entries_of front,
@@ -66,18 +66,18 @@ module _ (settings : SettingsValue) (conn : ℕ) (place : LinePlace) (old : Serv
   )
 
   -- more is waited for
-  pub front_rests : StandsThere settings conn state at.line fronts.Waits → (now : ServerValue) → now ≡ old → (media : Option Media) (acts : Option (List Timed))
+  pub front_rests : IsFrontAt settings conn state at.line fronts.Waits → (now : ServerValue) → now ≡ old → (media : Option Media) (acts : Option (List Timed))
       → FrontRests settings conn state old now entries media media acts acts
   front_rests stands now same media acts = record {
     rests = subst (λ (o : Option Line). MatchOption o ⊤ (λ line. IsCut line.buffered waits)) (sym line_there) stands.2;
-    kept = subst (λ (server : ServerValue). IsKept server settings state entries) (sym same) kept;
+    kept = subst (λ (server : ServerValue). RestartsWith server settings state entries) (sym same) kept;
     written = ap (λ (server : ServerValue). server.journal) same;
     still = refl;
     silent = refl;
   }
 
   -- no request stands there
-  module _ (fault : HttpFault) (stands : StandsThere settings conn state at.line (fronts.Refused fault)) (now : ServerValue) (is : now ≡ record old { lines = forgotten conn old.lines }) where
+  module _ (fault : HttpFault) (stands : IsFrontAt settings conn state at.line (fronts.Refused fault)) (now : ServerValue) (is : now ≡ record old { lines = forgotten conn old.lines }) where
     pub refused_answered : (media media_new : Option Media) (moment last : ℕ) (acts acts_new : Option (List Timed)) → IsMoment moment media
         → Added acts acts_new (SentTo moment last (owned.Conn conn (refusal fault) ∷ owned.Close conn ∷ [])) → KeepsMedia media media_new
         → FrontAnswered settings conn state old now entries media media_new acts acts_new
@@ -89,7 +89,7 @@ module _ (settings : SettingsValue) (conn : ℕ) (place : LinePlace) (old : Serv
           new = new;
           few = entries;
           answers = front_turn (fronts.Refused fault) stands refl new (ap (λ (es : List Entry). record state { history = es; lines = forgotten conn state.lines }) (sym (append-nil state.history)));
-          kept = subst (λ (server : ServerValue). IsKept server settings new entries) (sym is) (lines_kept (forgotten conn) old settings state entries kept);
+          kept = subst (λ (server : ServerValue). RestartsWith server settings new entries) (sym is) (lines_restarts (forgotten conn) old settings state entries kept);
           turned = subst
               (λ (j : JournalValue). Turned settings state new sends (journal.Represents old.journal settings entries) (journal.Represents j settings entries) media media_new acts acts_new)
               (sym (ap (λ (server : ServerValue). server.journal) is))
@@ -98,7 +98,7 @@ module _ (settings : SettingsValue) (conn : ℕ) (place : LinePlace) (old : Serv
         }
 
   -- a request stands there
-  module _ (size : ℕ) (close : Bool) (answered : RestAnswer) (stands : StandsThere settings conn state at.line (fronts.Answered size close answered)) where
+  module _ (size : ℕ) (close : Bool) (answered : RestAnswer) (stands : IsFrontAt settings conn state at.line (fronts.Answered size close answered)) where
     abbrev becomes : List PeerLines → List PeerLines
     becomes lines = cond close (forgotten conn lines) (buffering conn (drop size) lines)
 
@@ -112,7 +112,7 @@ module _ (settings : SettingsValue) (conn : ℕ) (place : LinePlace) (old : Serv
     answers_so = front_turn (fronts.Answered size close answered) stands refl answered_so (having_is answered becomes state)
 
     pub request_answered : (said now : ServerValue) (few : List Entry) (media there media_new : Option Media) (moment last : ℕ) (acts told acts_new : Option (List Timed))
-        → IsKept said settings (having answered state) few
+        → RestartsWith said settings (having answered state) few
         → TurnedTo moment settings state (having answered state) (owned.Conn conn (reply_in answered) ∷ []) (journal.Represents old.journal settings entries) (journal.Represents said.journal settings few)
         media there acts told
         → now ≡ record said { lines = becomes said.lines } → Added told acts_new (SentTo moment last (closing conn close)) → KeepsMedia there media_new
@@ -122,7 +122,7 @@ module _ (settings : SettingsValue) (conn : ℕ) (place : LinePlace) (old : Serv
       new = answered_so;
       few = few;
       answers = answers_so;
-      kept = subst (λ (server : ServerValue). IsKept server settings answered_so few) (sym is) (lines_kept becomes said settings (having answered state) few said_kept);
+      kept = subst (λ (server : ServerValue). RestartsWith server settings answered_so few) (sym is) (lines_restarts becomes said settings (having answered state) few said_kept);
       turned = subst
           (λ (j : JournalValue). Turned settings state answered_so sent_so (journal.Represents old.journal settings entries) (journal.Represents j settings few) media media_new acts acts_new)
           (sym (ap (λ (server : ServerValue). server.journal) is))
@@ -183,7 +183,7 @@ module _ (settings : SettingsValue) (conn : ℕ) (more left : List ℕ) (state :
     ap (receiving conn left) x.3,
   )
 
-module _ (settings : SettingsValue) (conn : ℕ) (rest : List ℕ) (state : State) (old : ServerValue) (entries : List Entry) (kept : IsKept old settings state entries) (media media_new : Option Media) (acts acts_new : Option (List Timed)) where
+module _ (settings : SettingsValue) (conn : ℕ) (rest : List ℕ) (state : State) (old : ServerValue) (entries : List Entry) (kept : RestartsWith old settings state entries) (media media_new : Option Media) (acts acts_new : Option (List Timed)) where
   -- the connection isn't there
   pub rests_nowhere : line_of conn old.lines ≡ None → FrontRests settings conn (receiving conn rest state) old old entries media media acts acts
   rests_nowhere none =
@@ -191,7 +191,7 @@ module _ (settings : SettingsValue) (conn : ℕ) (rest : List ℕ) (state : Stat
       let same = buffering_nowhere conn (with_more rest) state.lines gone in
       record {
         rests = subst (λ (o : Option Line). MatchOption o ⊤ (λ line. IsCut line.buffered waits)) (sym (ap (line_of conn) same ∙ gone)) tt;
-        kept = subst (λ (lines : List PeerLines). IsKept old settings (record state { lines = lines }) entries) (sym same) kept;
+        kept = subst (λ (lines : List PeerLines). RestartsWith old settings (record state { lines = lines }) entries) (sym same) kept;
         written = refl;
         still = refl;
         silent = refl;
@@ -203,11 +203,11 @@ module _ (settings : SettingsValue) (conn : ℕ) (rest : List ℕ) (state : Stat
     written : held.journal ≡ old.journal
     written = ap (λ (server : ServerValue). server.journal) others
 
-    pub held_kept : IsKept held settings (receiving conn (take n rest) state) entries
-    held_kept =
-        subst (λ (server : ServerValue). IsKept server settings (receiving conn (take n rest) state) entries)
+    pub held_restarts : RestartsWith held settings (receiving conn (take n rest) state) entries
+    held_restarts =
+        subst (λ (server : ServerValue). RestartsWith server settings (receiving conn (take n rest) state) entries)
         (sym (others ∙ ap (λ (lines : List PeerLines). record old { lines = lines }) (held_all conn place (with_more (take n rest)) old.lines held.lines at holds)))
-        (lines_kept (with_piece conn (take n rest)) old settings state entries kept)
+        (lines_restarts (with_piece conn (take n rest)) old settings state entries kept)
 
     -- and all that there are
     pub piece_rests : (next : ServerValue) → take n rest ≡ rest → FrontRests settings conn (receiving conn (take n rest) state) held next entries media media_new acts acts_new

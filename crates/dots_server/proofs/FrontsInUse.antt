@@ -18,7 +18,7 @@ use Rattle.dots_data.specs.Accepting.{IsInUse, FrontCanBeCarriedOut}
 use Rattle.dots_data.specs.Accepting as data_channel
 use Rattle.dots_machine.specs.Machine.{State}
 use Rattle.dots_server.specs.ServerValues.{ServerValue, Represents, IsServing, IsAcceptable}
-use Rattle.dots_server.specs.Pieces.{StandsThere, CanAnswerFront}
+use Rattle.dots_server.specs.Pieces.{IsFrontAt, CanAnswerFront}
 
 -- its registry is in use
 pub in_use : (server : ServerValue) → IsServing server → IsInUse server.settings server.registry
@@ -51,7 +51,7 @@ can_answer server (fronts.Answered size close (answer.Accept reply entry)) can =
 pub stands_there : (old server : ServerValue) → old ≡ server → (tables : RegistryValue) → tables ≡ old.registry → (conn : ℕ) (place : LinePlace) (at : IsAt conn place server.lines) (caller : Caller) (front : RestFront)
     → caller_of old.settings conn old.lines ≡ Some caller
     → ((line : Line) (entries : List Entry) → line_at place old.lines ≡ Some line → registry.Represents tables entries → IsFront old.settings (time_of tables) entries caller line.buffered front)
-    → (settings : SettingsValue) (state : State) → Represents server settings state → StandsThere settings conn state at.line front
+    → (settings : SettingsValue) (state : State) → Represents server settings state → IsFrontAt settings conn state at.line front
 stands_there old server is tables tables_are conn place at caller front asks stands settings state represents =
     let of = subst (λ (s : ServerValue). Represents s settings state) (sym is) represents in (
       caller,

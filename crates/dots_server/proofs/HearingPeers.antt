@@ -48,7 +48,7 @@ use Rattle.dots_machine.specs.Verdict.{Verdict}
 use Rattle.dots_machine.specs.declared.verdict.Verdict.TheVariants as verdict
 use Rattle.dots_machine.specs.Machine.{State, Hears, by_message, unreadable, by_stranger, hearing, beating}
 use Rattle.dots_server.specs.Receiving.{Lacks}
-use Rattle.dots_server.specs.ServerValues.{ServerValue, Represents, RepresentsWith, IsKept, IsServing, IsAcceptable, CanCarryOut}
+use Rattle.dots_server.specs.ServerValues.{ServerValue, Represents, RepresentsWith, RestartsWith, IsServing, IsAcceptable, CanCarryOut}
 use Rattle.dots_server.specs.HearingPeers.{is_heard, is_wanted, as_heard, met, SaysBeat, beaten}
 use Rattle.dots_server.specs.declared.deciding.Came.{Came}
 use Rattle.dots_server.specs.declared.deciding.Came.TheVariants as came
@@ -123,8 +123,8 @@ module _ (heard : Bool) (peer : ℕ) (old : ServerValue) where
         slots = represents.slots;
       }
 
-  pub heard_kept : (settings : SettingsValue) (state : State) (entries : List Entry) → IsKept old settings state entries → IsKept with_heard settings (as_heard heard peer state) entries
-  heard_kept settings state entries kept = record { represents = with_met settings state entries kept.represents; rests = kept.rests }
+  pub heard_restarts : (settings : SettingsValue) (state : State) (entries : List Entry) → RestartsWith old settings state entries → RestartsWith with_heard settings (as_heard heard peer state) entries
+  heard_restarts settings state entries kept = record { represents = with_met settings state entries kept.represents; rests = kept.rests }
 
   pub heard_lives : IsServing old → IsServing with_heard
   heard_lives serving = record {
@@ -192,9 +192,9 @@ pub sid_found : (held_now : Option (ℕ × Bor Config)) → option_map (λ held_
 sid_found None = refl
 sid_found (Some (sid, config)) = refl
 
-pub view_shown : (x : Exchange) (sid : Option ℕ) (configured : Option Configured) → is_wanted sid configured ≡ true → config_view x sid configured ≡ verdict.LongReply (configuration_reply x configured)
-view_shown x None configured is = refl
-view_shown x (Some sid) configured is = cond-true (is_held sid configured) (verdict.LongReply (configuration_reply x configured)) (verdict.Reply (absent x)) is
+pub view_wanted : (x : Exchange) (sid : Option ℕ) (configured : Option Configured) → is_wanted sid configured ≡ true → config_view x sid configured ≡ verdict.LongReply (configuration_reply x configured)
+view_wanted x None configured is = refl
+view_wanted x (Some sid) configured is = cond-true (is_held sid configured) (verdict.LongReply (configuration_reply x configured)) (verdict.Reply (absent x)) is
 
 pub view_absent : (x : Exchange) (sid : Option ℕ) (configured : Option Configured) → is_wanted sid configured ≡ false → config_view x sid configured ≡ verdict.Reply (absent x)
 view_absent x None configured is = absurd (false≢true (sym is))
@@ -312,8 +312,8 @@ module _ (old : ServerValue) (now : ℕ) (rows : List PeerContact) (time_is : no
         slots = represents.slots;
       }
 
-  pub beaten_kept : (settings : SettingsValue) (state : State) (entries : List Entry) → IsKept old settings state entries → IsKept with_rows settings (beaten settings state) entries
-  beaten_kept settings state entries kept = record { represents = with_beaten settings state entries kept.represents; rests = kept.rests }
+  pub beaten_restarts : (settings : SettingsValue) (state : State) (entries : List Entry) → RestartsWith old settings state entries → RestartsWith with_rows settings (beaten settings state) entries
+  beaten_restarts settings state entries kept = record { represents = with_beaten settings state entries kept.represents; rests = kept.rests }
 
   pub beaten_lives : IsServing old → IsServing with_rows
   beaten_lives serving = record {

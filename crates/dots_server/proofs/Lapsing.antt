@@ -22,11 +22,11 @@ use Rattle.slot_journal.specs.DiskEntries as journal
 use Rattle.dots_machine.specs.ConfiguredPeers.{beating_at}
 use Rattle.dots_machine.specs.Signals.{domain_of_client, own_domain, LastHeard, last_heard, is_silent, is_watched_in, loss_in, loss_of, row_lapsed, history_lapsed, rows_lapsed}
 use Rattle.dots_machine.specs.Machine.{State, lapsed}
-use Rattle.dots_server.specs.ServerValues.{ServerValue, IsKept}
+use Rattle.dots_server.specs.ServerValues.{ServerValue, RestartsWith}
 use Rattle.dots_server.specs.Turning.{Wrote, Broke, LiesOn, IsStored, Grows, last_left, Chained}
 use Rattle.dots_server.specs.Taking.{stored_of}
 use Rattle.dots_server.specs.Signals.{loss_in_row, loss_at, lapsed_at, HasLapsed, LapseBroke}
-use Rattle.dots_server.proofs.Looping.{kept_stored}
+use Rattle.dots_server.proofs.Looping.{restarts_stored}
 use Rattle.dots_server.proofs.Chaining.{turned_as, last_more, chained_more}
 use Rattle.dots_machine.proofs.Fronts.{owed_then}
 use Rattle.dots_server.proofs.Turning.{wrote_turned, broke_more, none_more}
@@ -192,14 +192,14 @@ pub record LapsedSoFar (settings : SettingsValue) (start : State) (place : ℕ) 
   pub reached : State
   pub few : List Entry
   pub is : IsLapsing settings start place reached
-  pub kept : IsKept now settings reached few
+  pub kept : RestartsWith now settings reached few
   pub steps : List (Turn State)
   pub silent : owed_in steps ≡ []
   pub chained : Chained settings start.time start (stored_of old entries) steps (stored_of now few) media media_now acts acts_now
   pub left : reached.history ≡ (last_left start steps).history
 
 module _ (settings : SettingsValue) (start : State) (old : ServerValue) (entries : List Entry) (media : Option Media) (acts : Option (List Timed)) where
-  pub none_lapsed : IsKept old settings start entries → LapsedSoFar settings start 0 old old entries media media acts acts
+  pub none_lapsed : RestartsWith old settings start entries → LapsedSoFar settings start 0 old old entries media media acts acts
   none_lapsed kept = record {
     reached = start;
     few = entries;
@@ -223,7 +223,7 @@ module _ (settings : SettingsValue) (start : State) (old : ServerValue) (entries
     time_so_far = ap (λ (s : State). s.time) so_far.is.others
 
     -- one more
-    pub one_lapsed : (few : List Entry) (moment : ℕ) → place < length now.watch.sessions → IsMoment moment media_new → IsKept next settings to few
+    pub one_lapsed : (few : List Entry) (moment : ℕ) → place < length now.watch.sessions → IsMoment moment media_new → RestartsWith next settings to few
         → Wrote settings from to (journal.Represents now.journal settings so_far.few) (journal.Represents next.journal settings few) there media_new told acts_new
         → LapsedSoFar settings start (place + 1) old next entries media media_new acts acts_new
     one_lapsed few moment less here kept wrote =
@@ -237,7 +237,7 @@ module _ (settings : SettingsValue) (start : State) (old : ServerValue) (entries
           silent = owed_then so_far.steps (turn ∷ []) ∙ ap (λ owed. owed ++ []) so_far.silent;
           chained = chained_more settings start.time start (stored_of old entries) so_far.steps (stored_of now so_far.few) (stored_of next few) turn media there media_new acts told acts_new so_far.chained time_so_far
               (subst (λ es. Grows es to.history) so_far.left (loss_at settings place from, refl))
-              (subst (λ t. IsStored settings t to.history few) time_so_far (kept_stored next settings to few kept))
+              (subst (λ t. IsStored settings t to.history few) time_so_far (restarts_stored next settings to few kept))
               (turned_as settings from (last_left start so_far.steps) to to so_far.left refl refl (LiesOn settings (stored_of now so_far.few)) there media_new told acts_new []
               (LiesOn settings (stored_of next few))
               (wrote_turned settings from to (LiesOn settings (stored_of now so_far.few)) (LiesOn settings (stored_of next few)) there media_new moment told acts_new here wrote));
@@ -265,7 +265,7 @@ module _ (settings : SettingsValue) (start : State) (old : ServerValue) (entries
         }
 
   -- all of them
-  pub all_lapsed : (place : ℕ) (now : ServerValue) (there : Option Media) (told : Option (List Timed)) → place ≡ length old.watch.sessions → IsKept old settings start entries
+  pub all_lapsed : (place : ℕ) (now : ServerValue) (there : Option Media) (told : Option (List Timed)) → place ≡ length old.watch.sessions → RestartsWith old settings start entries
       → LapsedSoFar settings start place old now entries media there acts told → HasLapsed settings start old now entries media there acts told
   all_lapsed place now there told all kept so_far =
       let size = so_far.is.size in
@@ -275,7 +275,7 @@ module _ (settings : SettingsValue) (start : State) (old : ServerValue) (entries
         steps = so_far.steps;
         silent = so_far.silent;
         few = so_far.few;
-        kept = subst (λ (s : State). IsKept now settings s so_far.few) whole so_far.kept;
+        kept = subst (λ (s : State). RestartsWith now settings s so_far.few) whole so_far.kept;
         chained = so_far.chained;
         left = ap (λ (s : State). s.history) (sym whole) ∙ so_far.left;
       }

@@ -338,8 +338,8 @@ module _ (server : ServerValue) (peer domain : ℕ) (c : Change) (loss : is_loss
   abbrev entry_kept : Entry
   entry_kept = signal_entry (time_of server.registry) peer c domain
 
-  kept_owned : (settings : SettingsValue) (state : State) → Represents server settings state → is_own settings entry_kept ≡ true
-  kept_owned settings state represents =
+  signal_owned : (settings : SettingsValue) (state : State) → Represents server settings state → is_own settings entry_kept ≡ true
+  signal_owned settings state represents =
       signal_own settings (time_of server.registry) peer domain c loss (subst (λ s. role_of s peer ≡ role.Client domain) represents.settings_are client)
       (subst (λ (s : SettingsValue). domain < length s.domains) represents.settings_are within)
 
@@ -350,8 +350,8 @@ module _ (server : ServerValue) (peer domain : ℕ) (c : Change) (loss : is_loss
         let early : entry_kept.time < 2 ^ 48 = subst (λ t. t < 2 ^ 48) (sym represents.time_is) represents.early in
         fits_loss settings server.registry state.history entry_kept loss represents.is_of represents.registry
         (subst (λ t. ClientsKeepLimits settings.limits t state.history) (sym represents.time_is) represents.limits)
-        (kept_owned settings state represents) (bounded_loss entry_kept loss early refl refl) refl;
-    own = kept_owned;
+        (signal_owned settings state represents) (bounded_loss entry_kept loss early refl refl) refl;
+    own = signal_owned;
     one_peer = λ settings state represents.
         ap (λ b. not b || list_all (λ (m : Mitigation). not (same_client m.put entry_kept) || (peer == m.put.peer)) (mitigations (time_of server.registry) state.history))
         (lost_of_no_mitigation c loss);

@@ -12,7 +12,7 @@ use Rattle.slot_journal.specs.DiskEntries as journal
 use Rattle.slot_journal.specs.Kept.{HasKept}
 use Rattle.dots_machine.specs.Signals.{signal_entry}
 use Rattle.dots_machine.specs.Machine.{State, with_entry}
-use Rattle.dots_server.specs.ServerValues.{ServerValue, IsKept}
+use Rattle.dots_server.specs.ServerValues.{ServerValue, RestartsWith}
 use Rattle.dots_server.specs.HearingPeers.{as_heard, met}
 use Rattle.dots_server.specs.Signals.{returned, signals}
 use Rattle.dots_server.specs.Turning.{HasTurn, Wrote, Broke}
@@ -41,9 +41,9 @@ wrote_from settings from old new same Before After media media_new acts acts_new
 -- A server represents a state on the way from one to another, to which it comes by what is kept of a peer.
 module _ (settings : SettingsValue) (state base to : State) (peer : ℕ) (c : Change) (o : Option ℕ) (same : base.history ≡ state.history)
     (to_is : to ≡ record base { history = base.history ++ signals base.time peer c o }) (old mid : ServerValue) (entries : List Entry) (journal_is : mid.journal ≡ old.journal) where
-  abbrev KeptBy : ServerValue → Option Media → Option Media → Option (List Timed) → Option (List Timed) → Type 0
-  KeptBy now media media_new acts acts_new =
-      (few : List Entry) × IsKept now settings to few
+  abbrev UnchangedBy : ServerValue → Option Media → Option Media → Option (List Timed) → Option (List Timed) → Type 0
+  UnchangedBy now media media_new acts acts_new =
+      (few : List Entry) × RestartsWith now settings to few
       × Wrote settings state to (journal.Represents old.journal settings entries) (journal.Represents now.journal settings few) media media_new acts acts_new
 
   nothing_is : o ≡ None → base ≡ to
@@ -51,10 +51,10 @@ module _ (settings : SettingsValue) (state base to : State) (peer : ℕ) (c : Ch
       ap (λ es. record base { history = es }) (sym (append-nil base.history))
       ∙ ap (λ x. record base { history = base.history ++ signals base.time peer c x }) (sym none) ∙ sym to_is
 
-  pub nothing_kept : o ≡ None → IsKept mid settings base entries → (media : Option Media) (acts : Option (List Timed)) → KeptBy mid media media acts acts
-  nothing_kept none kept media acts = (
+  pub nothing_restarts : o ≡ None → RestartsWith mid settings base entries → (media : Option Media) (acts : Option (List Timed)) → UnchangedBy mid media media acts acts
+  nothing_restarts none kept media acts = (
     entries,
-    subst (λ (s : State). IsKept mid settings s entries) (nothing_is none) kept,
+    subst (λ (s : State). RestartsWith mid settings s entries) (nothing_is none) kept,
     subst (λ (j : JournalValue). Wrote settings state to (journal.Represents j settings entries) (journal.Represents mid.journal settings entries) media media acts acts) journal_is
         (unwritten_wrote settings state to (journal.Represents mid.journal settings entries) media acts),
   )
@@ -64,12 +64,12 @@ module _ (settings : SettingsValue) (state base to : State) (peer : ℕ) (c : Ch
     one_is = ap (λ x. record base { history = base.history ++ signals base.time peer c x }) (sym there) ∙ sym to_is
 
     module _ (now : ServerValue) (media media_new : Option Media) (acts acts_new : Option (List Timed)) where
-      pub one_kept : (few : List Entry) → IsKept now settings (with_entry base (signal_entry base.time peer c domain)) few
+      pub one_restarts : (few : List Entry) → RestartsWith now settings (with_entry base (signal_entry base.time peer c domain)) few
           → Wrote settings base (with_entry base (signal_entry base.time peer c domain)) (journal.Represents mid.journal settings entries) (journal.Represents now.journal settings few) media media_new acts acts_new
-          → KeptBy now media media_new acts acts_new
-      one_kept few kept wrote = (
+          → UnchangedBy now media media_new acts acts_new
+      one_restarts few kept wrote = (
         few,
-        subst (λ (s : State). IsKept now settings s few) one_is kept,
+        subst (λ (s : State). RestartsWith now settings s few) one_is kept,
         subst (λ (j : JournalValue). Wrote settings state to (journal.Represents j settings entries) (journal.Represents now.journal settings few) media media_new acts acts_new) journal_is
             (wrote_from settings base state to same (journal.Represents mid.journal settings entries) (journal.Represents now.journal settings few) media media_new acts acts_new
             (subst (λ (s : State). Wrote settings base s (journal.Represents mid.journal settings entries) (journal.Represents now.journal settings few) media media_new acts acts_new) one_is wrote)),

@@ -22,7 +22,7 @@ use Rattle.dots_machine.specs.Verdict.{Verdict}
 use Rattle.dots_machine.specs.Observing.{bodies_at, observing}
 use Rattle.dots_machine.specs.Machine.{State, seen_in, watched, Notified}
 use Rattle.dots_server.specs.Observing.{changed, bodies_of}
-use Rattle.dots_server.specs.ServerValues.{ServerValue, observers_of, Represents, RepresentsWith, IsKept, IsServing}
+use Rattle.dots_server.specs.ServerValues.{ServerValue, observers_of, Represents, RepresentsWith, RestartsWith, IsServing}
 use Rattle.dots_server.proofs.Watching.{seen_same, bodies_same}
 
 -- the observers and the sessions became others
@@ -54,8 +54,8 @@ module _ (old : ServerValue) (watch : Watch) (settings : SettingsValue) (state :
         slots = represents.slots;
       }
 
-  pub watch_kept : (entries : List Entry) → IsKept old settings state entries → IsKept with_watch settings with_notified entries
-  watch_kept entries kept = record { represents = watch_represents entries kept.represents; rests = kept.rests }
+  pub watch_restarts : (entries : List Entry) → RestartsWith old settings state entries → RestartsWith with_watch settings with_notified entries
+  watch_restarts entries kept = record { represents = watch_represents entries kept.represents; rests = kept.rests }
 
 -- what others were notified of goes on being what there is to see
 still_notified : (lists : Lists) (among : DueAmong) (room peer : ℕ) (asked : Watching) (os : List ObservedValue) → AreNotified lists among os → AreNotified lists among (changed room lists peer asked os)
@@ -82,11 +82,11 @@ module _ (old : ServerValue) (peer : ℕ) (asked : Watching) where
       with_observed : ObserversValue → List ObservedValue → ObserversValue
       with_observed v observed = record v { observed = observed }
 
-  pub observed_kept : (settings : SettingsValue) (state : State) (entries : List Entry) (said : Watching) (decided : Verdict) (replies : List OwnedOut) → IsKept old settings state entries
+  pub observed_restarts : (settings : SettingsValue) (state : State) (entries : List Entry) (said : Watching) (decided : Verdict) (replies : List OwnedOut) → RestartsWith old settings state entries
       → ((lists : Lists) → observing settings lists peer said decided replies state.observers ≡ changed settings.limits.observers lists peer asked state.observers)
-      → IsKept with_changed settings (watched settings peer said decided replies state) entries
-  observed_kept settings state entries said decided replies kept does =
-      watch_kept old with_changed.watch settings state (observing settings (seen_in settings state) peer said decided replies state.observers) state.contacts
+      → RestartsWith with_changed settings (watched settings peer said decided replies state) entries
+  observed_restarts settings state entries said decided replies kept does =
+      watch_restarts old with_changed.watch settings state (observing settings (seen_in settings state) peer said decided replies state.observers) state.contacts
       (changed_are settings state kept.represents.represents ∙ ap (observers_of settings) (sym (does (seen_in settings state)))) kept.represents.represents.contacts entries kept
 
   pub observed_lives : IsServing old → IsServing with_changed
@@ -114,10 +114,10 @@ module _ (old : ServerValue) (watch : Watch) (room : watch.observers.room ≡ ol
       made : ℕ → List Pair → ObserversValue
       made room pairs = record { room = room; pairs = pairs; observed = watch.observers.observed }
 
-  pub notified_kept : (settings : SettingsValue) (state : State) (entries : List Entry) → IsKept old settings state entries
-      → IsKept with_others settings (record state { observers = watch.observers.observed; contacts = watch.sessions }) entries
-  notified_kept settings state entries kept =
-      watch_kept old watch settings state watch.observers.observed watch.sessions (others_are settings state kept.represents.represents) refl entries kept
+  pub notified_restarts : (settings : SettingsValue) (state : State) (entries : List Entry) → RestartsWith old settings state entries
+      → RestartsWith with_others settings (record state { observers = watch.observers.observed; contacts = watch.sessions }) entries
+  notified_restarts settings state entries kept =
+      watch_restarts old watch settings state watch.observers.observed watch.sessions (others_are settings state kept.represents.represents) refl entries kept
 
   pub notified_lives : IsKnown (views_of old.registry) watch.due watch.observers.observed → IsServing old → IsServing with_others
   notified_lives known serving = record {

@@ -19,7 +19,7 @@ use Rattle.dots_machine.specs.Machine.{State}
 use Rattle.dots_registry.specs.RegistryValues.{RegistryValue}
 use Rattle.dots_server.specs.HearingPeers.{SaysBeat}
 use Rattle.dots_server.proofs.HearingPeers.{agrees}
-use Rattle.dots_server.specs.ServerValues.{ServerValue, Represents, RepresentsWith, IsKept, IsServing}
+use Rattle.dots_server.specs.ServerValues.{ServerValue, Represents, RepresentsWith, RestartsWith, IsServing}
 use Rattle.dots_server.specs.Signals.{passing, watched_domain, signals, loss_in_row, loss_at, with_turn}
 use Rattle.dots_server.proofs.LostSignals.{passing_all, passing_none, loss_found, watched_found}
 
@@ -151,8 +151,8 @@ module _ (old : ServerValue) (rows : List PeerContact) where
         slots = represents.slots;
       }
 
-  pub sessions_kept : (settings : SettingsValue) (state : State) (entries : List Entry) → IsKept old settings state entries → IsKept with_sessions settings (record state { contacts = rows }) entries
-  sessions_kept settings state entries kept = record { represents = sessions_represents settings state entries kept.represents; rests = kept.rests }
+  pub sessions_restarts : (settings : SettingsValue) (state : State) (entries : List Entry) → RestartsWith old settings state entries → RestartsWith with_sessions settings (record state { contacts = rows }) entries
+  sessions_restarts settings state entries kept = record { represents = sessions_represents settings state entries kept.represents; rests = kept.rests }
 
   pub sessions_live : IsServing old → IsServing with_sessions
   sessions_live serving = record {

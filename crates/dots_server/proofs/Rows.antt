@@ -26,20 +26,20 @@ times_append conn front back = sum_by-append (λ l. cond (is_number conn l) 1 0)
 
 -- ---- no number comes to stand twice
 
-number_kept : (conn other : ℕ) (becomes : List ℕ → List ℕ) (line : Line) → is_number other (line_buffering conn becomes line) ≡ is_number other line
-number_kept conn other becomes line = by_test (is_number conn line)
+number_same : (conn other : ℕ) (becomes : List ℕ → List ℕ) (line : Line) → is_number other (line_buffering conn becomes line) ≡ is_number other line
+number_same conn other becomes line = by_test (is_number conn line)
   where
     by_test : (b : Bool) → is_number other (cond b (buffered_by becomes line) line) ≡ is_number other line
     by_test true = refl
     by_test false = refl
 
-times_kept : (conn other : ℕ) (becomes : List ℕ → List ℕ) (lines : List Line) → times other (map (line_buffering conn becomes) lines) ≡ times other lines
-times_kept conn other becomes [] = refl
-times_kept conn other becomes (line ∷ lines) =
+times_same : (conn other : ℕ) (becomes : List ℕ → List ℕ) (lines : List Line) → times other (map (line_buffering conn becomes) lines) ≡ times other lines
+times_same conn other becomes [] = refl
+times_same conn other becomes (line ∷ lines) =
     let a = times_cons other (line_buffering conn becomes line) (map (line_buffering conn becomes) lines) in
     let b = times_cons other line lines in
-    let n = ap one_if (number_kept conn other becomes line) in
-    let rest = times_kept conn other becomes lines in
+    let n = ap one_if (number_same conn other becomes line) in
+    let rest = times_same conn other becomes lines in
     omega (arith, a, b, n, rest)
 
 times_buffering : (conn other : ℕ) (becomes : List ℕ → List ℕ) (rows : List PeerLines) → times other (all_lines (buffering conn becomes rows)) ≡ times other (all_lines rows)
@@ -47,7 +47,7 @@ times_buffering conn other becomes [] = refl
 times_buffering conn other becomes (row ∷ rows) =
     let a = times_append other (map (line_buffering conn becomes) row.lines) (all_lines (buffering conn becomes rows)) in
     let b = times_append other row.lines (all_lines rows) in
-    let here = times_kept conn other becomes row.lines in
+    let here = times_same conn other becomes row.lines in
     let rest = times_buffering conn other becomes rows in
     omega (arith, a, b, here, rest)
 

@@ -32,7 +32,7 @@ use Rattle.dots_machine.specs.Observing.{seen_among, seen_at}
 use Rattle.dots_server.proofs.Watching.{seen_same}
 use Rattle.stream_table.specs.Lines.{PeerLines, AreOf}
 use Rattle.stream_table.specs.Places.{AreApart}
-use Rattle.dots_server.specs.ServerValues.{ServerValue, ledger_of, Represents, RepresentsWith, IsKept, IsServing, IsAcceptable}
+use Rattle.dots_server.specs.ServerValues.{ServerValue, ledger_of, Represents, RepresentsWith, RestartsWith, IsServing, IsAcceptable}
 
 -- ---- the connections are those that were
 
@@ -69,8 +69,8 @@ module _ (at : ℕ) (old new : ServerValue) (ended : DueAmong) (early : at < 2 ^
         slots = ap (λ (j : JournalValue). j.slots) journal ∙ represents.slots;
       }
 
-  pub kept_later : (settings : SettingsValue) (state : State) (entries : List Entry) → IsKept old settings state entries → IsKept new settings (later state at) entries
-  kept_later settings state entries kept = record { represents = with_later settings state entries kept.represents; rests = kept.rests }
+  pub restarts_later : (settings : SettingsValue) (state : State) (entries : List Entry) → RestartsWith old settings state entries → RestartsWith new settings (later state at) entries
+  restarts_later settings state entries kept = record { represents = with_later settings state entries kept.represents; rests = kept.rests }
 
   pub lives_later : IsServing old → IsServing new
   lives_later serving = record {
@@ -84,12 +84,12 @@ module _ (at : ℕ) (old new : ServerValue) (ended : DueAmong) (early : at < 2 ^
   }
 
 -- a time that isn't later changes nothing
-pub kept_still : (at : ℕ) (server : ServerValue) (settings : SettingsValue) (state : State) (entries : List Entry) → at ≤ time_of server.registry → IsKept server settings state entries
-    → IsKept server settings (later state at) entries
-kept_still at server settings state entries early kept =
+pub restarts_still : (at : ℕ) (server : ServerValue) (settings : SettingsValue) (state : State) (entries : List Entry) → at ≤ time_of server.registry → RestartsWith server settings state entries
+    → RestartsWith server settings (later state at) entries
+restarts_still at server settings state entries early kept =
     let is = kept.represents.represents.time_is in
     let same : state.time ≡ max at state.time = omega (arith, early, is) in
-    subst (λ t. IsKept server settings (record state { time = t }) entries) same kept
+    subst (λ t. RestartsWith server settings (record state { time = t }) entries) same kept
 
 -- ---- an entry is taken
 
@@ -135,9 +135,9 @@ elsewhere settings t history entry o other =
 
 module _ (entry : Entry) (old new : ServerValue) (can : IsAcceptable old entry) (same : new.settings ≡ old.settings) (watch : new.watch ≡ record old.watch { due = joined old.watch.due entry.domain }) (connections : new.lines ≡ old.lines) (slots : new.journal.slots ≡ old.journal.slots) (time : time_of new.registry ≡ entry.time) where
   -- it is in the tables and on the disk
-  with_entry_kept : (settings : SettingsValue) (state : State) (entries few : List Entry) → RepresentsWith old settings state entries → ledger.Represents (ledger_of new) settings (state.history ++ entry ∷ []) few
+  with_entry_restarts : (settings : SettingsValue) (state : State) (entries few : List Entry) → RepresentsWith old settings state entries → ledger.Represents (ledger_of new) settings (state.history ++ entry ∷ []) few
       → RepresentsWith new settings (with_entry state entry) few
-  with_entry_kept settings state entries few represents tables =
+  with_entry_restarts settings state entries few represents tables =
       let fits = and_parts _ _ (can.fits settings state represents.represents) in
       let at : entry.time ≡ state.time = can.now ∙ represents.represents.time_is in record {
         represents = record {
@@ -159,10 +159,10 @@ module _ (entry : Entry) (old new : ServerValue) (can : IsAcceptable old entry) 
       }
 
   -- the entries have the view of the history at the entry's time, which is that of the last entry
-  pub kept_with : (settings : SettingsValue) (state : State) (entries few : List Entry) → RepresentsWith old settings state entries → ledger.Represents (ledger_of new) settings (state.history ++ entry ∷ []) few
-      → IsKept new settings (with_entry state entry) few
-  kept_with settings state entries few represents tables = record {
-    represents = with_entry_kept settings state entries few represents tables;
+  pub restarts_with : (settings : SettingsValue) (state : State) (entries few : List Entry) → RepresentsWith old settings state entries → ledger.Represents (ledger_of new) settings (state.history ++ entry ∷ []) few
+      → RestartsWith new settings (with_entry state entry) few
+  restarts_with settings state entries few represents tables = record {
+    represents = with_entry_restarts settings state entries few represents tables;
     rests = subst (λ n. Kept n (last_time (state.history ++ entry ∷ [])) few (state.history ++ entry ∷ [])) (ap (λ (limits : Limits). limits.remembered) tables.is_of.limits)
         (subst (λ t. Kept (number_remembered new.registry) t few (state.history ++ entry ∷ [])) (time ∙ sym (last_of_push state.history entry)) tables.kept);
   }
@@ -184,7 +184,7 @@ module _ (entry : Entry) (old new : ServerValue) (can : IsAcceptable old entry) 
   }
     where
       here : RepresentsWith new old.settings (with_entry serving.state entry) few
-      here = with_entry_kept old.settings serving.state serving.entries few serving.represents tables
+      here = with_entry_restarts old.settings serving.state serving.entries few serving.represents tables
 
 -- the disk failed, and the tables are as they were
 pub lives_still : (domain : ℕ) (old new : ServerValue) (few : List Entry) (serving : IsServing old) → new.settings ≡ old.settings → new.watch ≡ record old.watch { due = joined old.watch.due domain } → new.lines ≡ old.lines

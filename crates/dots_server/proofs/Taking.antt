@@ -28,14 +28,14 @@ use Rattle.dots_machine.specs.declared.verdict.Verdict.TheVariants as verdict
 use Rattle.dots_machine.specs.Machine.{State, later, restarted, receiving, Decides, with_entry, StepInto}
 use Rattle.dots_machine.proofs.Hearing.{hears_time}
 use Rattle.dots_machine.proofs.Fronts.{front_time, fronts_time}
-use Rattle.dots_server.specs.ServerValues.{ServerValue, IsKept}
+use Rattle.dots_server.specs.ServerValues.{ServerValue, RestartsWith}
 use Rattle.dots_server.specs.Turning.{IsServed, HasTurn, Broke}
 use Rattle.dots_server.proofs.Turning.{keeps_itself, added_behind}
 use Rattle.dots_server.specs.Running.{StopsFor, FailsOnlyFor}
 use Rattle.dots_server.specs.Taking.{stored_of, Took}
-use Rattle.dots_server.proofs.Looping.{kept_stored}
+use Rattle.dots_server.proofs.Looping.{restarts_stored}
 
-module _ (settings : SettingsValue) (state : State) (at : ℕ) (old : ServerValue) (entries : List Entry) (kept : IsKept old settings state entries) where
+module _ (settings : SettingsValue) (state : State) (at : ℕ) (old : ServerValue) (entries : List Entry) (kept : RestartsWith old settings state entries) where
   -- what the disk holds at a restart
   restart_has : (image : ℕ → ℕ) → HasEntries settings image entries → HasTurn settings state (restarted settings state at) image
   restart_has image image_has = inl (record {
@@ -51,7 +51,7 @@ module _ (settings : SettingsValue) (state : State) (at : ℕ) (old : ServerValu
     restart_writes rests = leaves_as media media_new (λ image. HasEntries settings image entries) (HasTurn settings state (restarted settings state at)) restart_has (moments rests)
 
     -- the server began anew, in a turn without sends
-    pub restart_took : (now : ServerValue) (moment : ℕ) → IsMoment moment media_new → IsKept now settings (restarted settings state at) entries → RestsWith media_new (journal.Represents now.journal settings entries)
+    pub restart_took : (now : ServerValue) (moment : ℕ) → IsMoment moment media_new → RestartsWith now settings (restarted settings state at) entries → RestsWith media_new (journal.Represents now.journal settings entries)
         → Took settings state event.Restart at old now entries media media_new acts acts_new
     restart_took now moment here begun rests_new = record {
       turns = (record { sends = []; left = restarted settings state at }) ∷ [];
@@ -65,7 +65,7 @@ module _ (settings : SettingsValue) (state : State) (at : ℕ) (old : ServerValu
         acts_new,
         refl,
         ([], sym (append-nil state.history)),
-        kept_stored now settings (restarted settings state at) entries begun,
+        restarts_stored now settings (restarted settings state at) entries begun,
         record {
           between = media_new;
           moment = moment;

@@ -13,11 +13,11 @@ use Rattle.slot_store.specs.StoreValues.{JournalValue}
 use Rattle.session_core.specs.Notifying.{SentTo}
 use Rattle.dots_machine.specs.Machine.{State, later, Notified}
 use Rattle.dots_machine.proofs.Observing.{notified_history, notified_time}
-use Rattle.dots_server.specs.ServerValues.{ServerValue, IsKept}
+use Rattle.dots_server.specs.ServerValues.{ServerValue, RestartsWith}
 use Rattle.dots_server.specs.Turning.{Turned, Stored, LiesOn, IsStored, last_left, Chained}
 use Rattle.dots_server.specs.Taking.{stored_of, Took, BrokeOff}
 use Rattle.dots_server.specs.Pieces.{PieceTaken, PieceBroke}
-use Rattle.dots_server.proofs.Looping.{kept_stored}
+use Rattle.dots_server.proofs.Looping.{restarts_stored}
 use Rattle.dots_server.proofs.Turning.{unwritten}
 use Rattle.dots_server.proofs.Chaining.{broke_as, last_more, last_from, chained_more, chained_from}
 
@@ -36,7 +36,7 @@ module _ (settings : SettingsValue) (conn at : ℕ) (piece : List ℕ) (state : 
       (subst (λ (j : JournalValue). Chained settings time now (stored_by j entries) turns after media media_new acts acts_new) same chained)
 
   module _ (taken next : ServerValue) (media there media_new : Option Media) (acts told acts_new : Option (List Timed)) (moment last : ℕ)
-      (p : PieceTaken settings conn piece now moved taken entries media there acts told) (sends : List OwnedOut) (new : State) (notified : Notified settings p.rested sends new) (kept : IsKept next settings new p.few)
+      (p : PieceTaken settings conn piece now moved taken entries media there acts told) (sends : List OwnedOut) (new : State) (notified : Notified settings p.rested sends new) (kept : RestartsWith next settings new p.few)
       (journal_is : next.journal ≡ taken.journal) (here : IsMoment moment there) (sent : Added told acts_new (SentTo moment last sends)) (keeps : KeepsMedia there media_new) where
     abbrev notices : Turn State
     notices = record { sends = sends; left = new }
@@ -69,7 +69,7 @@ module _ (settings : SettingsValue) (conn at : ℕ) (piece : List ℕ) (state : 
       chained = subst (λ t. Chained settings t state (stored_of old entries) (p.turns ++ notices ∷ []) (stored_of next p.few) media media_new acts acts_new) (sym time_is)
           (chained_more settings now.time state (stored_of old entries) p.turns (stored_of taken p.few) (stored_of next p.few) notices media there media_new acts told acts_new
           (chained_back now.time p.turns (stored_of taken p.few) media there acts told p.chained) time_is ([], history_is ∙ sym (append-nil (last_left state p.turns).history))
-          (subst (λ t. IsStored settings t new.history p.few) time_is (kept_stored next settings new p.few kept)) notified_turn);
+          (subst (λ t. IsStored settings t new.history p.few) time_is (restarts_stored next settings new p.few kept)) notified_turn);
       left = sym (ap (λ (s : State). s.history) (last_more state p.turns notices));
     }
 

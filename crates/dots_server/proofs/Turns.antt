@@ -31,8 +31,8 @@ use Rattle.dots_server.specs.Turning.{Turned, Broke, Stored, LiesOn, IsStored, G
 use Rattle.slot_journal.proofs.Crashing.{represents_has}
 use Rattle.dots_server.proofs.Turning.{none_added}
 use Rattle.dots_server.specs.Taking.{stored_of, Took, BrokeOff}
-use Rattle.dots_server.specs.ServerValues.{ServerValue, IsKept}
-use Rattle.dots_server.proofs.Looping.{kept_stored}
+use Rattle.dots_server.specs.ServerValues.{ServerValue, RestartsWith}
+use Rattle.dots_server.proofs.Looping.{restarts_stored}
 use Rattle.dots_server.proofs.Taking.{into_timely}
 use Rattle.dots_server.specs.Running.{GoesOnTo, HasCome, Came}
 
@@ -495,13 +495,13 @@ module _ (settings : SettingsValue) where
 pub record LivesOn (settings : SettingsValue) (start : State) (server : ServerValue) (n : ℕ) (Rests : Type 0) (first media : Option Media) (acts acts_now : Option (List Timed)) : Type 0 where
   pub state : State
   pub few : List Entry
-  pub kept : IsKept server settings state few
+  pub kept : RestartsWith server settings state few
   pub rests : Rests → RestsWith media (LiesOn settings (stored_of server few))
   pub grown : Grows start.history state.history
   pub trace : List State
   pub told : Added acts acts_now (GoesOnTo settings start state n first media Rests trace)
 
-pub lives_first : (settings : SettingsValue) (start : State) (server : ServerValue) (stored : List Entry) (media : Option Media) (acts : Option (List Timed)) → IsKept server settings start stored
+pub lives_first : (settings : SettingsValue) (start : State) (server : ServerValue) (stored : List Entry) (media : Option Media) (acts : Option (List Timed)) → RestartsWith server settings start stored
     → LivesOn settings start server 0 (RestsWith media (LiesOn settings (stored_of server stored))) media media acts acts
 lives_first settings start server stored media acts kept = record {
   state = start;
@@ -520,7 +520,7 @@ module _ (settings : SettingsValue) (start : State) (server : ServerValue) (n mo
   now_stored = stored_of server lives.few
 
   is_stored : IsStored settings lives.state.time lives.state.history lives.few
-  is_stored = kept_stored server settings lives.state lives.few lives.kept
+  is_stored = restarts_stored server settings lives.state lives.few lives.kept
 
   pub rests_came : Rests → RestsWith b (journal.Represents server.journal settings lives.few)
   rests_came r = rests_still a b (LiesOn settings now_stored) (lives.rests r) keeps

@@ -84,12 +84,12 @@ module _ (server : ServerValue) where
   spoken_plain number (verdict.Retrieves x body) can = absurd can
   spoken_plain number (verdict.Accept reply entry) can = refl
 
-  shows_nothing : (v : Verdict) → CanCarryOut v server → is_retrieved v ≡ false
-  shows_nothing verdict.Silent can = refl
-  shows_nothing (verdict.Reply reply) can = refl
-  shows_nothing (verdict.LongReply reply) can = refl
-  shows_nothing (verdict.Retrieves x body) can = absurd can
-  shows_nothing (verdict.Accept reply entry) can = refl
+  retrieves_nothing : (v : Verdict) → CanCarryOut v server → is_retrieved v ≡ false
+  retrieves_nothing verdict.Silent can = refl
+  retrieves_nothing (verdict.Reply reply) can = refl
+  retrieves_nothing (verdict.LongReply reply) can = refl
+  retrieves_nothing (verdict.Retrieves x body) can = absurd can
+  retrieves_nothing (verdict.Accept reply entry) can = refl
 
   module _ (settings : SettingsValue) (peer : ℕ) (observed : List ObservedValue) where
     -- nothing is asked
@@ -139,7 +139,7 @@ module _ (server : ServerValue) where
         → observing settings lists from.peer (asked_from from mid content s) answer (sends_of None v from.peer) observed ≡ changed settings.limits.observers lists from.peer (leaving from.exchange s) observed
     watched_so lists said.Register =
         cond-false (is_retrieved answer) (registered lists settings.limits.observers (record { peer = from.peer; domain = from.domain; token = from.exchange.token; cuid = from.cuid; mid = mid; content = content }) observed) observed
-        (shows_nothing answer can_answer)
+        (retrieves_nothing answer can_answer)
     watched_so lists said.Deregister = cond-false (is_unavailable (sends_of None v from.peer)) observed (deregistered from.peer from.exchange.token observed) available
     watched_so lists said.No = refl
 
@@ -151,23 +151,23 @@ module _ (server : ServerValue) where
 
 -- mitigations are shown
 module _ (settings : SettingsValue) (from : ClientRequest) (mid : Option ℕ) (content : Content) (observed : List ObservedValue) (body reply : List ℕ) (number : Option ℕ) where
-  shown_so : (lists : Lists) (s : Observe) → reply ≡ showing from.exchange number body
+  observers_so : (lists : Lists) (s : Observe) → reply ≡ showing from.exchange number body
       → observing settings lists from.peer (asked_from from mid content s) (verdict.Retrieves from.exchange body) (sends_of None (verdict.LongReply reply) from.peer) observed
       ≡ changed settings.limits.observers lists from.peer (asked_from from mid content s) observed
-  shown_so lists said.Register is = refl
-  shown_so lists said.Deregister is =
+  observers_so lists said.Register is = refl
+  observers_so lists said.Deregister is =
       cond-false (code_of reply == 160) observed (deregistered from.peer from.exchange.token observed) (ap (λ r. code_of r == 160) is ∙ by_number number)
     where
       by_number : (n : Option ℕ) → (code_of (showing from.exchange n body) == 160) ≡ false
       by_number None = refl
       by_number (Some k) = refl
-  shown_so lists said.No is = refl
+  observers_so lists said.No is = refl
 
   pub show_does : (s : Observe) → number ≡ number_of settings (asked_from from mid content s) observed → reply ≡ showing from.exchange number body
       → Does settings from.peer observed (asked_from from mid content s) (verdict.Retrieves from.exchange body) (asked_from from mid content s) (verdict.LongReply reply)
   show_does s number_is is = record {
     verdict_is = ap verdict.LongReply (is ∙ ap (λ n. showing from.exchange n body) number_is);
-    observers = λ lists. shown_so lists s is;
+    observers = λ lists. observers_so lists s is;
   }
 
 -- ---- what asks nothing, and what can't be answered for want of memory

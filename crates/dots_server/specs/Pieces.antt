@@ -13,15 +13,15 @@ use Rattle.rest_answers.specs.declared.front.RestFront.TheVariants as front
 use Rattle.rest_answers.specs.Answer.{RestAnswer}
 use Rattle.rest_answers.specs.Turns.{RestFront, caller_of, IsFront, Rests}
 use Rattle.dots_machine.specs.Machine.{State, AnswersFront, receiving, with_entry}
-use Rattle.dots_server.specs.ServerValues.{ServerValue, IsKept, IsAcceptable}
+use Rattle.dots_server.specs.ServerValues.{ServerValue, RestartsWith, IsAcceptable}
 use Rattle.dots_server.specs.Turning.{Turned, Broke, Stored, LiesOn, last_left, Chained}
 use Rattle.dots_server.specs.Taking.{stored_of}
 
 -- ---- what stands at the front
 
 -- in a state, by its history: who asks, and what it is
-abbrev pub StandsThere : SettingsValue → ℕ → State → Line → RestFront → Type 0
-StandsThere settings conn state line at =
+abbrev pub IsFrontAt : SettingsValue → ℕ → State → Line → RestFront → Type 0
+IsFrontAt settings conn state line at =
     (caller : Caller) × (caller_of settings conn state.lines ≡ Some caller) × IsFront settings state.time state.history caller line.buffered at
 
 -- an accepted entry can be taken
@@ -49,13 +49,13 @@ pub record FrontAnswered (settings : SettingsValue) (conn : ℕ) (state : State)
   pub new : State
   pub few : List Entry
   pub answers : AnswersFront settings conn state sends new
-  pub kept : IsKept now settings new few
+  pub kept : RestartsWith now settings new few
   pub turned : Turned settings state new sends (LiesOn settings (stored_of old entries)) (LiesOn settings (stored_of now few)) media media_now acts acts_now
 
 -- More is waited for, or the connection is gone, and nothing was done.
 pub record FrontRests (settings : SettingsValue) (conn : ℕ) (state : State) (old now : ServerValue) (entries : List Entry) (media media_now : Option Media) (acts acts_now : Option (List Timed)) : Type 0 where
   pub rests : Rests conn state.lines
-  pub kept : IsKept now settings state entries
+  pub kept : RestartsWith now settings state entries
   pub written : now.journal ≡ old.journal
   pub still : media_now ≡ media
   pub silent : acts_now ≡ acts
@@ -81,7 +81,7 @@ pub record PieceAnswered (settings : SettingsValue) (conn : ℕ) (rest left : Li
   pub new : State
   pub few : List Entry
   pub answers : AnswersFront settings conn (receiving conn rest state) sends (receiving conn left new)
-  pub kept : IsKept now settings new few
+  pub kept : RestartsWith now settings new few
   pub turned : Turned settings state new sends (LiesOn settings (stored_of old entries)) (LiesOn settings (stored_of now few)) media media_now acts acts_now
 
 -- so many of the bytes are held now; or none is left, since the connection rests
@@ -97,7 +97,7 @@ pub record TurnsTaken (settings : SettingsValue) (conn : ℕ) (piece rest : List
   pub reached : State
   pub few : List Entry
   pub fronts : Chain (AnswersFront settings conn) (receiving conn piece state) turns (receiving conn rest reached)
-  pub kept : IsKept now settings reached few
+  pub kept : RestartsWith now settings reached few
   pub chained : Chained settings state.time state (stored_of old entries) turns (stored_of now few) media media_now acts acts_now
   pub time : reached.time ≡ state.time
   pub left : reached.history ≡ (last_left state turns).history
@@ -109,7 +109,7 @@ pub record PieceTaken (settings : SettingsValue) (conn : ℕ) (piece : List ℕ)
   pub few : List Entry
   pub fronts : Chain (AnswersFront settings conn) (receiving conn piece state) turns rested
   pub rests : Rests conn rested.lines
-  pub kept : IsKept now settings rested few
+  pub kept : RestartsWith now settings rested few
   pub chained : Chained settings state.time state (stored_of old entries) turns (stored_of now few) media media_now acts acts_now
   pub time : rested.time ≡ state.time
   pub left : rested.history ≡ (last_left state turns).history

@@ -64,7 +64,7 @@ pub record RepresentsWith (server : ServerValue) (settings : SettingsValue) (sta
   pub slots : server.journal.slots ≡ slots_of settings
 
 -- And they have the view of the history at the time of its last entry, so that a restart finds what was accepted, whatever its time is.
-pub record IsKept (server : ServerValue) (settings : SettingsValue) (state : State) (entries : List Entry) : Type 0 where
+pub record RestartsWith (server : ServerValue) (settings : SettingsValue) (state : State) (entries : List Entry) : Type 0 where
   pub represents : RepresentsWith server settings state entries
   pub rests : Kept settings.limits.remembered (last_time state.history) entries state.history
 

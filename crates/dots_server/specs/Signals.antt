@@ -10,7 +10,7 @@ use Rattle.session_core.specs.declared.contact.PeerContact.{PeerContact}
 use Rattle.session_core.specs.Places.{with_place}
 use Rattle.dots_machine.specs.Signals.{own_domain, signal_entry, is_lost_in, is_watched_in, last_heard, loss_of, row_lapsed}
 use Rattle.dots_machine.specs.Machine.{State, lapsed}
-use Rattle.dots_server.specs.ServerValues.{ServerValue, IsKept}
+use Rattle.dots_server.specs.ServerValues.{ServerValue, RestartsWith}
 use Rattle.dots_server.specs.Turning.{Broke, Stored, LiesOn, Grows, last_left, Chained}
 use Rattle.dots_server.specs.Taking.{stored_of}
 
@@ -61,7 +61,7 @@ pub record HasLapsed (settings : SettingsValue) (state : State) (old now : Serve
   pub steps : List (Turn State)
   pub silent : owed_in steps ≡ []
   pub few : List Entry
-  pub kept : IsKept now settings (lapsed settings state) few
+  pub kept : RestartsWith now settings (lapsed settings state) few
   pub chained : Chained settings state.time state (stored_of old entries) steps (stored_of now few) media media_now acts acts_now
   pub left : (lapsed settings state).history ≡ (last_left state steps).history
 

@@ -10,7 +10,7 @@ use Rattle.dots_host.specs.declared.out.OwnedOut.{OwnedOut}
 use Rattle.dots_host.specs.declared.out.OwnedOut.TheVariants as owned
 use Rattle.dots_machine.specs.declared.verdict.Verdict.TheVariants as verdict
 use Rattle.dots_machine.specs.Machine.{State, Step, StepInto, Answers, Decides, Hears, with_entry}
-use Rattle.dots_server.specs.ServerValues.{ServerValue, IsKept}
+use Rattle.dots_server.specs.ServerValues.{ServerValue, RestartsWith}
 use Rattle.dots_server.specs.Turning.{Turned, Broke, Stored, LiesOn, Grows, last_left, Chained}
 
 abbrev pub stored_of : ServerValue → List Entry → Stored
@@ -22,7 +22,7 @@ pub record Took (settings : SettingsValue) (state : State) (came : Event) (at : 
   pub new : State
   pub few : List Entry
   pub step : Step settings state came at (owed_in turns) new
-  pub kept : IsKept now settings new few
+  pub kept : RestartsWith now settings new few
   pub chained : Chained settings new.time state (stored_of old entries) turns (stored_of now few) media media_now acts acts_now
   pub left : new.history ≡ (last_left state turns).history
 
@@ -49,7 +49,7 @@ pub record Answered (settings : SettingsValue) (state met : State) (peer : ℕ) 
   pub new : State
   pub few : List Entry
   pub answers : Answers settings state peer datagram sends new
-  pub kept : IsKept now settings new few
+  pub kept : RestartsWith now settings new few
   pub turned : Turned settings met new sends (LiesOn settings (stored_of old entries)) (LiesOn settings (stored_of now few)) media media_now acts acts_now
   pub grows : Grows met.history new.history
 
@@ -66,7 +66,7 @@ pub record DatagramTaken (settings : SettingsValue) (state : State) (peer : ℕ)
   pub new : State
   pub few : List Entry
   pub answers : Answers settings state peer datagram sends new
-  pub kept : IsKept now settings new few
+  pub kept : RestartsWith now settings new few
   pub steps : List (Turn State)
   pub owes : owed_in steps ≡ each_telling new sends
   pub chained : Chained settings new.time state (stored_of old entries) steps (stored_of now few) media media_now acts acts_now

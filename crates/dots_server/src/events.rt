@@ -11,7 +11,7 @@ ghost use Rattle.slot_store.specs.Layout.{needed_of};
 ghost use Rattle.slot_journal.specs.DiskEntries as journal;
 ghost use Rattle.dots_machine.specs.Machine.{State};
 ghost use Rattle.dots_machine.specs.Endings.{IsSized};
-ghost use Rattle.dots_server.specs.ServerValues.{Represents, IsKept};
+ghost use Rattle.dots_server.specs.ServerValues.{Represents, RestartsWith};
 ghost use Rattle.dots_server.specs.Running.{Came, IsFollowed, StopsFor, FailsOnlyFor, stop_of};
 
 use crate::server::Server;
@@ -28,7 +28,7 @@ pub fn take_events<H: Host>(server: Server, host: &mut H, room: &mut [u8]) -> Re
     requires size { needed_of server.journal.slots ≤ H.extent host.old }
     // A run of the machine, where the disk is told, or where the acts are and none is a restart. Where the disk is told, and rested, the run
     // survives a crash at any moment.
-    ensures came { (settings : SettingsValue) (start : State) (stored : List Entry) → IsKept server settings start stored
+    ensures came { (settings : SettingsValue) (start : State) (stored : List Entry) → RestartsWith server settings start stored
         → IsFollowed (RestsWith (H.media host.old) (journal.Represents server.journal settings stored)) (H.acts host.old) (H.acts host.new)
         → (end : Owing State) × Came settings start (stop_of result) (H.media host.old) (H.media host.new) (RestsWith (H.media host.old) (journal.Represents server.journal settings stored))
         (H.acts host.old) (H.acts host.new) end

@@ -10,7 +10,7 @@ ghost use Rattle.dots_machine.specs.Machine.{State, Notified};
 ghost use Rattle.session_core.specs.Notifying.{SentTo, IsKnown, OnlyUnheardAreDue};
 ghost use Rattle.dots_registry.specs.ObserverViews.{views_of};
 ghost use Rattle.dots_server.specs.Observing.{MayObserve, changed};
-ghost use Rattle.dots_server.specs.ServerValues.{observers_of, IsKept};
+ghost use Rattle.dots_server.specs.ServerValues.{observers_of, RestartsWith};
 
 use crate::long_replies::retrieved_body;
 use crate::mitigations::views_of;
@@ -95,8 +95,8 @@ impl Server {
 
     /// Notifies the observers that are due. None is looked at where none can be due.
     pub(crate) fn notify<H: Host>(&mut self, host: &mut H)
-        ensures notified { (settings : SettingsValue) (state : State) (entries : List Entry) → IsKept self.old settings state entries
-            → (sends : List OwnedOut) × (new : State) × Notified settings state sends new × IsKept self.new settings new entries
+        ensures notified { (settings : SettingsValue) (state : State) (entries : List Entry) → RestartsWith self.old settings state entries
+            → (sends : List OwnedOut) × (new : State) × Notified settings state sends new × RestartsWith self.new settings new entries
             × Added (H.acts host.old) (H.acts host.new) (SentTo (H.moment host.old) (H.moment host.new) sends) }
         ensures known { IsKnown (views_of self.new.registry) self.new.watch.due self.new.watch.observers.observed }
         ensures all { self.new.watch.refused ≡ None

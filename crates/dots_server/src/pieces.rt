@@ -17,9 +17,9 @@ ghost use Rattle.rest_answers.specs.Replies.{refusal};
 ghost use Rattle.rest_answers.specs.Turns.{caller_of, is_waiting, HasSize, reply_in, closing};
 ghost use Rattle.dots_machine.specs.Machine.{State, receiving};
 ghost use Rattle.session_core.specs.Notifying.{SentTo};
-ghost use Rattle.dots_server.specs.ServerValues.{Represents, IsKept};
+ghost use Rattle.dots_server.specs.ServerValues.{Represents, RestartsWith};
 ghost use Rattle.dots_server.specs.Turning.{TurnedTo, Broke};
-ghost use Rattle.dots_server.specs.Pieces.{StandsThere, CanAnswer, CanAnswerFront, having, IsAcceptedBy, IsFrontTaken, FrontBroke, IsPieceTaken, PieceTaken, PieceBroke, bytes_on};
+ghost use Rattle.dots_server.specs.Pieces.{IsFrontAt, CanAnswer, CanAnswerFront, having, IsAcceptedBy, IsFrontTaken, FrontBroke, IsPieceTaken, PieceTaken, PieceBroke, bytes_on};
 
 use crate::server::Server;
 use dots_data::{Desk, RestStream, caller_at, front};
@@ -41,9 +41,9 @@ impl Server {
         piece: &[u8],
     ) -> Result<(), DiskFault>
         requires size { needed_of self.old.journal.slots ≤ H.extent host.old }
-        ensures done { OnOk result ((settings : SettingsValue) (state : State) (entries : List Entry) → IsKept self.old settings state entries
+        ensures done { OnOk result ((settings : SettingsValue) (state : State) (entries : List Entry) → RestartsWith self.old settings state entries
             → PieceTaken settings conn piece.now state self.old self.new entries (H.media host.old) (H.media host.new) (H.acts host.old) (H.acts host.new)) }
-        ensures failed { OnErr result ((settings : SettingsValue) (state : State) (entries : List Entry) → IsKept self.old settings state entries
+        ensures failed { OnErr result ((settings : SettingsValue) (state : State) (entries : List Entry) → RestartsWith self.old settings state entries
             → PieceBroke settings conn piece.now state self.old entries (H.media host.old) (H.media host.new) (H.acts host.old) (H.acts host.new)) }
         ensures adds { Added (H.acts host.old) (H.acts host.new) (λ _. ⊤) }
         ensures settings { self.new.settings ≡ self.old.settings }
@@ -74,9 +74,9 @@ impl Server {
         rest: &[u8],
     ) -> Result<Option<usize>, DiskFault>
         requires size { needed_of self.old.journal.slots ≤ H.extent host.old }
-        ensures done { IfOk result (λ taken. (settings : SettingsValue) (state : State) (entries : List Entry) → IsKept self.old settings state entries
+        ensures done { IfOk result (λ taken. (settings : SettingsValue) (state : State) (entries : List Entry) → RestartsWith self.old settings state entries
             → IsPieceTaken taken settings conn rest.now state self.old self.new entries (H.media host.old) (H.media host.new) (H.acts host.old) (H.acts host.new)) }
-        ensures failed { OnErr result ((settings : SettingsValue) (state : State) (entries : List Entry) → IsKept self.old settings state entries
+        ensures failed { OnErr result ((settings : SettingsValue) (state : State) (entries : List Entry) → RestartsWith self.old settings state entries
             → FrontBroke settings conn (receiving conn rest.now state) self.old entries (H.media host.old) (H.media host.new) (H.acts host.old) (H.acts host.new)) }
         ensures fewer { IfOk result (λ taken. IfSome taken (λ n. (n ≤ length rest.now) × (bytes_on conn self.new.lines + length rest.now < bytes_on conn self.old.lines + length rest.now + n))) }
         ensures adds { Added (H.acts host.old) (H.acts host.new) (λ _. ⊤) }
@@ -106,9 +106,9 @@ impl Server {
     ) -> Result<bool, DiskFault>
         requires there { IsAt conn place self.old.lines }
         requires size { needed_of self.old.journal.slots ≤ H.extent host.old }
-        ensures done { IfOk result (λ more. (settings : SettingsValue) (state : State) (entries : List Entry) → IsKept self.old settings state entries
+        ensures done { IfOk result (λ more. (settings : SettingsValue) (state : State) (entries : List Entry) → RestartsWith self.old settings state entries
             → IsFrontTaken more settings conn state self.old self.new entries (H.media host.old) (H.media host.new) (H.acts host.old) (H.acts host.new)) }
-        ensures failed { OnErr result ((settings : SettingsValue) (state : State) (entries : List Entry) → IsKept self.old settings state entries
+        ensures failed { OnErr result ((settings : SettingsValue) (state : State) (entries : List Entry) → RestartsWith self.old settings state entries
             → FrontBroke settings conn state self.old entries (H.media host.old) (H.media host.new) (H.acts host.old) (H.acts host.new)) }
         ensures fewer { IfOk result (λ more. more ≡ true → bytes_on conn self.new.lines < bytes_on conn self.old.lines) }
         // Where more is waited for, there is room for it.
@@ -171,7 +171,7 @@ impl Server {
     fn front_at(&mut self, place: LinePlace) -> RestFront<Staged>
         requires { (conn : ℕ) × IsAt conn place self.old.lines }
         ensures stands { (conn : ℕ) (at : IsAt conn place self.old.lines) (settings : SettingsValue) (state : State) → Represents self.old settings state
-            → StandsThere settings conn state at.line result }
+            → IsFrontAt settings conn state at.line result }
         ensures room { (line : Line) → line_at place self.old.lines ≡ Some line → is_waiting result ≡ true → length line.buffered < 16384 }
         ensures size { (line : Line) → line_at place self.old.lines ≡ Some line → HasSize line.buffered result }
         ensures ready { CanAnswerFront result self.old }
@@ -216,12 +216,12 @@ impl Server {
     ) -> Result<(), DiskFault>
         requires ready { CanAnswer answer self.old }
         requires size { needed_of self.old.journal.slots ≤ H.extent host.old }
-        ensures done { OnOk result ((settings : SettingsValue) (state : State) (entries : List Entry) → IsKept self.old settings state entries
-            → (few : List Entry) × IsKept self.new settings (having answer state) few
+        ensures done { OnOk result ((settings : SettingsValue) (state : State) (entries : List Entry) → RestartsWith self.old settings state entries
+            → (few : List Entry) × RestartsWith self.new settings (having answer state) few
             × TurnedTo (H.moment host.new) settings state (having answer state) (owned.Conn conn (reply_in answer) ∷ []) (journal.Represents self.old.journal settings entries) (journal.Represents self.new.journal settings few)
             (H.media host.old) (H.media host.new) (H.acts host.old) (H.acts host.new)) }
         // Nothing but an entry that is accepted is written.
-        ensures failed { OnErr result ((settings : SettingsValue) (state : State) (entries : List Entry) → IsKept self.old settings state entries
+        ensures failed { OnErr result ((settings : SettingsValue) (state : State) (entries : List Entry) → RestartsWith self.old settings state entries
             → IsAcceptedBy answer × Broke settings state (having answer state) (journal.Represents self.old.journal settings entries) (H.media host.old) (H.media host.new) (H.acts host.old) (H.acts host.new)) }
         ensures lines { self.new.lines ≡ self.old.lines }
         ensures adds { Added (H.acts host.old) (H.acts host.new) (λ _. ⊤) }

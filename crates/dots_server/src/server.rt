@@ -26,7 +26,7 @@ ghost use Rattle.dots_registry.specs.ObserverViews.{views_of};
 ghost use Rattle.session_core.specs.Contacts.{heard_from, unheard, number_of};
 ghost use Rattle.session_core.specs.Beats.{beats};
 ghost use Rattle.session_core.specs.Notifying.{SentTo, IsKnown, OnlyUnheardAreDue};
-ghost use Rattle.dots_server.specs.ServerValues.{observers_of, Represents, IsKept, IsAcceptable, CanCarryOut, IsAccepted};
+ghost use Rattle.dots_server.specs.ServerValues.{observers_of, Represents, RestartsWith, IsAcceptable, CanCarryOut, IsAccepted};
 ghost use Rattle.dots_server.specs.HearingPeers.{beaten};
 ghost use Rattle.dots_server.specs.Taking.{Took, BrokeOff, Answered, Failing, DatagramTaken, DatagramBroke};
 ghost use Rattle.dots_server.specs.Asking.{IsCome};
@@ -103,7 +103,7 @@ impl Server {
     ) -> Result<Self, JournalFault>
         requires early { at < 2 ^ 48 }
         // It represents calm entries, which are what the disk held, and the disk rests with them.
-        ensures begun { IfOk result (λ server. (stored : List Entry) × IsKept server settings (restarted settings (begun_from settings stored) at) stored × (is_calm settings stored ≡ true)
+        ensures begun { IfOk result (λ server. (stored : List Entry) × RestartsWith server settings (restarted settings (begun_from settings stored) at) stored × (is_calm settings stored ≡ true)
             × ((seen : ℕ → ℕ) → Sees (H.media host.old) seen → HasEntries settings seen stored × RestsWith (H.media host.new) (journal.Represents server.journal settings stored))) }
         ensures settings { IfOk result (λ server. server.settings ≡ settings) }
         ensures size { OnOk result (needed_of (slots_of settings) ≤ H.extent host.new) }
@@ -142,17 +142,17 @@ impl Server {
     /// Those of [`Server::begin`].
     pub fn restart<H: Host>(self, host: &mut H, at: u64) -> Result<Self, JournalFault>
         requires early { at < 2 ^ 48 }
-        ensures restarted { IfOk result (λ server. (settings : SettingsValue) (state : State) (entries : List Entry) → IsKept self settings state entries
+        ensures restarted { IfOk result (λ server. (settings : SettingsValue) (state : State) (entries : List Entry) → RestartsWith self settings state entries
             → RestsWith (H.media host.old) (journal.Represents self.journal settings entries)
-            → IsKept server settings (restarted settings state at) entries × RestsWith (H.media host.new) (journal.Represents server.journal settings entries)) }
+            → RestartsWith server settings (restarted settings state at) entries × RestsWith (H.media host.new) (journal.Represents server.journal settings entries)) }
         ensures settings { IfOk result (λ server. server.settings ≡ self.settings) }
         ensures slots { IfOk result (λ server. server.journal.slots ≡ slots_of self.settings) }
         ensures size { OnOk result (needed_of (slots_of self.settings) ≤ H.extent host.new) }
-        ensures moments { (settings : SettingsValue) (state : State) (entries : List Entry) → IsKept self settings state entries
+        ensures moments { (settings : SettingsValue) (state : State) (entries : List Entry) → RestartsWith self settings state entries
             → RestsWith (H.media host.old) (journal.Represents self.journal settings entries)
             → Leaves (H.media host.old) (H.media host.new) (λ image. HasEntries settings image entries) }
         // What a server left is found again: there may be no memory, or the disk may fail, and else nothing is refused.
-        ensures found { IfErr result (λ fault. (settings : SettingsValue) (state : State) (entries : List Entry) → IsKept self settings state entries
+        ensures found { IfErr result (λ fault. (settings : SettingsValue) (state : State) (entries : List Entry) → RestartsWith self settings state entries
             → RestsWith (H.media host.old) (journal.Represents self.journal settings entries) → needed_of (slots_of settings) ≤ H.extent host.old → IsFailure fault) }
         // A disk of the size that the settings need isn't too small, whatever it tells.
         ensures sized { IfErr result (λ fault. needed_of self.journal.slots ≤ H.extent host.old → IsNoSize fault) }
@@ -195,9 +195,9 @@ impl Server {
         requires early { got.now.at < 2 ^ 48 }
         requires served { IsServed got.now.what }
         requires size { needed_of self.old.journal.slots ≤ H.extent host.old }
-        ensures done { OnOk result ((settings : SettingsValue) (state : State) (entries : List Entry) → IsKept self.old settings state entries
+        ensures done { OnOk result ((settings : SettingsValue) (state : State) (entries : List Entry) → RestartsWith self.old settings state entries
             → Took settings state (event_of got.now.what room.now) got.now.at self.old self.new entries (H.media host.old) (H.media host.new) (H.acts host.old) (H.acts host.new)) }
-        ensures failed { OnErr result ((settings : SettingsValue) (state : State) (entries : List Entry) → IsKept self.old settings state entries
+        ensures failed { OnErr result ((settings : SettingsValue) (state : State) (entries : List Entry) → RestartsWith self.old settings state entries
             → BrokeOff settings state (event_of got.now.what room.now) got.now.at self.old entries (H.media host.old) (H.media host.new) (H.acts host.old) (H.acts host.new)) }
         // Behind an event by which observers are notified none is due any more; or one is that was passed over, and all are looked at by the
         // next such event.
@@ -253,9 +253,9 @@ impl Server {
         datagram: &[u8],
     ) -> Result<(), DiskFault>
         requires size { needed_of self.old.journal.slots ≤ H.extent host.old }
-        ensures done { OnOk result ((settings : SettingsValue) (state : State) (entries : List Entry) → IsKept self.old settings state entries
+        ensures done { OnOk result ((settings : SettingsValue) (state : State) (entries : List Entry) → RestartsWith self.old settings state entries
             → DatagramTaken settings state peer datagram.now self.old self.new entries (H.media host.old) (H.media host.new) (H.acts host.old) (H.acts host.new)) }
-        ensures failed { OnErr result ((settings : SettingsValue) (state : State) (entries : List Entry) → IsKept self.old settings state entries
+        ensures failed { OnErr result ((settings : SettingsValue) (state : State) (entries : List Entry) → RestartsWith self.old settings state entries
             → DatagramBroke settings state peer datagram.now self.old entries (H.media host.old) (H.media host.new) (H.acts host.old) (H.acts host.new)) }
         ensures observers { OnOk result (IsKnown (views_of self.new.registry) self.new.watch.due self.new.watch.observers.observed) }
         ensures all { OnOk result (self.new.watch.refused ≡ None
@@ -284,10 +284,10 @@ impl Server {
     fn answer<H: Host>(&mut self, host: &mut H, peer: u32, came: Came) -> Result<(), DiskFault>
         requires came { (datagram : List ℕ) × IsCome self.old.settings peer datagram came }
         requires size { needed_of self.old.journal.slots ≤ H.extent host.old }
-        ensures done { OnOk result ((settings : SettingsValue) (state met : State) (entries : List Entry) (datagram : List ℕ) → IsKept self.old settings met entries
+        ensures done { OnOk result ((settings : SettingsValue) (state met : State) (entries : List Entry) (datagram : List ℕ) → RestartsWith self.old settings met entries
             → IsCome settings peer datagram came → Hears settings state peer datagram met
             → Answered settings state met peer datagram self.old self.new entries (H.media host.old) (H.media host.new) (H.acts host.old) (H.acts host.new)) }
-        ensures failed { OnErr result ((settings : SettingsValue) (met : State) (entries : List Entry) (datagram : List ℕ) → IsKept self.old settings met entries
+        ensures failed { OnErr result ((settings : SettingsValue) (met : State) (entries : List Entry) (datagram : List ℕ) → RestartsWith self.old settings met entries
             → IsCome settings peer datagram came
             → Failing settings met peer datagram self.old entries (H.media host.old) (H.media host.new) (H.acts host.old) (H.acts host.new)) }
         ensures observers { OnOk result (IsKnown (views_of self.new.registry) self.new.watch.due self.new.watch.observers.observed) }
@@ -316,7 +316,7 @@ impl Server {
         requires early { at < 2 ^ 48 }
         ensures settings { self.new.settings ≡ self.old.settings }
         ensures journal { self.new.journal ≡ self.old.journal }
-        ensures kept { (settings : SettingsValue) (state : State) (entries : List Entry) → IsKept self.old settings state entries → IsKept self.new settings (later state at) entries }
+        ensures kept { (settings : SettingsValue) (state : State) (entries : List Entry) → RestartsWith self.old settings state entries → RestartsWith self.new settings (later state at) entries }
     {
         let before = self.ledger.registry().time();
         if at > before {
@@ -342,7 +342,7 @@ impl Server {
     fn send_heartbeats<H: Host>(&mut self, host: &mut H)
         ensures sent { (settings : SettingsValue) (state : State) → Represents self.old settings state
             → Added (H.acts host.old) (H.acts host.new) (SentTo (H.moment host.old) (H.moment host.new) (beats (beating settings state) state.time state.contacts)) }
-        ensures kept { (settings : SettingsValue) (state : State) (entries : List Entry) → IsKept self.old settings state entries → IsKept self.new settings (beaten settings state) entries }
+        ensures kept { (settings : SettingsValue) (state : State) (entries : List Entry) → RestartsWith self.old settings state entries → RestartsWith self.new settings (beaten settings state) entries }
         ensures registry { self.new.registry ≡ self.old.registry }
         ensures watch { self.new.watch ≡ record self.old.watch { sessions = self.new.watch.sessions } }
         ensures unheard { (peer : ℕ) → number_of peer self.old.watch.sessions ≡ None → number_of peer self.new.watch.sessions ≡ None }
@@ -372,13 +372,13 @@ impl Server {
     ) -> Result<(), DiskFault>
         requires ready { CanCarryOut verdict self.old }
         requires size { needed_of self.old.journal.slots ≤ H.extent host.old }
-        ensures done { OnOk result ((settings : SettingsValue) (state : State) (entries : List Entry) → IsKept self.old settings state entries
-            → (few : List Entry) × IsKept self.new settings (after verdict state) few
+        ensures done { OnOk result ((settings : SettingsValue) (state : State) (entries : List Entry) → RestartsWith self.old settings state entries
+            → (few : List Entry) × RestartsWith self.new settings (after verdict state) few
             × TurnedTo (H.moment host.new) settings state (after verdict state) (sends_of None verdict peer) (journal.Represents self.old.journal settings entries) (journal.Represents self.new.journal settings few)
             (H.media host.old) (H.media host.new) (H.acts host.old) (H.acts host.new)) }
         ensures watch { self.new.watch ≡ record self.old.watch { due = self.new.watch.due } }
         // Nothing but an entry that is accepted is written.
-        ensures failed { OnErr result ((settings : SettingsValue) (state : State) (entries : List Entry) → IsKept self.old settings state entries
+        ensures failed { OnErr result ((settings : SettingsValue) (state : State) (entries : List Entry) → RestartsWith self.old settings state entries
             → IsAccepted verdict × Broke settings state (after verdict state) (journal.Represents self.old.journal settings entries) (H.media host.old) (H.media host.new) (H.acts host.old) (H.acts host.new)) }
         ensures adds { Added (H.acts host.old) (H.acts host.new) (λ _. ⊤) }
         ensures settings { self.new.settings ≡ self.old.settings }
@@ -416,11 +416,11 @@ impl Server {
     ) -> Result<(), DiskFault>
         requires ready { IsAcceptable self.old entry }
         requires size { needed_of self.old.journal.slots ≤ H.extent host.old }
-        ensures done { OnOk result ((settings : SettingsValue) (state : State) (entries : List Entry) → IsKept self.old settings state entries
-            → (few : List Entry) × IsKept self.new settings (with_entry state entry) few
+        ensures done { OnOk result ((settings : SettingsValue) (state : State) (entries : List Entry) → RestartsWith self.old settings state entries
+            → (few : List Entry) × RestartsWith self.new settings (with_entry state entry) few
             × Wrote settings state (with_entry state entry) (journal.Represents self.old.journal settings entries) (journal.Represents self.new.journal settings few)
             (H.media host.old) (H.media host.new) (H.acts host.old) (H.acts host.new)) }
-        ensures failed { OnErr result ((settings : SettingsValue) (state : State) (entries : List Entry) → IsKept self.old settings state entries
+        ensures failed { OnErr result ((settings : SettingsValue) (state : State) (entries : List Entry) → RestartsWith self.old settings state entries
             → Broke settings state (with_entry state entry) (journal.Represents self.old.journal settings entries) (H.media host.old) (H.media host.new) (H.acts host.old) (H.acts host.new)) }
         ensures watch { self.new.watch ≡ record self.old.watch { due = self.new.watch.due } }
         ensures lines { self.new.lines ≡ self.old.lines }

@@ -19,7 +19,7 @@ ghost use Rattle.dots_history.specs.HistoryReading.{is_waiting};
 ghost use Rattle.dots_registry.specs.RegistryValues.{time_of};
 ghost use Rattle.dots_registry.specs.RegistryValues as registry;
 ghost use Rattle.dots_machine.specs.Signals.{own_domain, signal_entry};
-ghost use Rattle.dots_server.specs.ServerValues.{Represents, IsKept};
+ghost use Rattle.dots_server.specs.ServerValues.{Represents, RestartsWith};
 ghost use Rattle.dots_server.specs.HearingPeers.{met};
 ghost use Rattle.dots_server.specs.Signals.{passing, watched_domain, lost_domain, returned, signals, loss_at, with_turn, lapsed_at, HasLapsed, LapseBroke};
 ghost use Rattle.dots_server.specs.Turning.{Wrote, Broke};
@@ -43,11 +43,11 @@ impl Server {
         heard: bool,
     ) -> Result<(), DiskFault>
         requires size { needed_of self.old.journal.slots ≤ H.extent host.old }
-        ensures done { OnOk result ((settings : SettingsValue) (state : State) (entries : List Entry) → IsKept self.old settings state entries
-            → (few : List Entry) × IsKept self.new settings (met settings heard peer state) few
+        ensures done { OnOk result ((settings : SettingsValue) (state : State) (entries : List Entry) → RestartsWith self.old settings state entries
+            → (few : List Entry) × RestartsWith self.new settings (met settings heard peer state) few
             × Wrote settings state (met settings heard peer state) (journal.Represents self.old.journal settings entries) (journal.Represents self.new.journal settings few)
             (H.media host.old) (H.media host.new) (H.acts host.old) (H.acts host.new)) }
-        ensures failed { OnErr result ((settings : SettingsValue) (state : State) (entries : List Entry) → IsKept self.old settings state entries
+        ensures failed { OnErr result ((settings : SettingsValue) (state : State) (entries : List Entry) → RestartsWith self.old settings state entries
             → ((met settings heard peer state).history ≢ state.history)
             × Broke settings state (met settings heard peer state) (journal.Represents self.old.journal settings entries) (H.media host.old) (H.media host.new) (H.acts host.old) (H.acts host.new)) }
         ensures adds { Added (H.acts host.old) (H.acts host.new) (λ _. ⊤) }
@@ -111,11 +111,11 @@ impl Server {
         requires client { role_of self.old.settings peer ≡ role.Client domain }
         requires within { domain < length self.old.settings.domains }
         requires size { needed_of self.old.journal.slots ≤ H.extent host.old }
-        ensures done { OnOk result ((settings : SettingsValue) (state : State) (entries : List Entry) → IsKept self.old settings state entries
-            → (few : List Entry) × IsKept self.new settings (with_entry state (signal_entry state.time peer change domain)) few
+        ensures done { OnOk result ((settings : SettingsValue) (state : State) (entries : List Entry) → RestartsWith self.old settings state entries
+            → (few : List Entry) × RestartsWith self.new settings (with_entry state (signal_entry state.time peer change domain)) few
             × Wrote settings state (with_entry state (signal_entry state.time peer change domain)) (journal.Represents self.old.journal settings entries) (journal.Represents self.new.journal settings few)
             (H.media host.old) (H.media host.new) (H.acts host.old) (H.acts host.new)) }
-        ensures failed { OnErr result ((settings : SettingsValue) (state : State) (entries : List Entry) → IsKept self.old settings state entries
+        ensures failed { OnErr result ((settings : SettingsValue) (state : State) (entries : List Entry) → RestartsWith self.old settings state entries
             → Broke settings state (with_entry state (signal_entry state.time peer change domain)) (journal.Represents self.old.journal settings entries) (H.media host.old) (H.media host.new) (H.acts host.old) (H.acts host.new)) }
         ensures watch { self.new.watch ≡ record self.old.watch { due = self.new.watch.due } }
         ensures adds { Added (H.acts host.old) (H.acts host.new) (λ _. ⊤) }
@@ -139,9 +139,9 @@ impl Server {
     /// watched is lost, which is kept.
     pub(crate) fn lapse<H: Host>(&mut self, host: &mut H) -> Result<(), DiskFault>
         requires size { needed_of self.old.journal.slots ≤ H.extent host.old }
-        ensures done { OnOk result ((settings : SettingsValue) (state : State) (entries : List Entry) → IsKept self.old settings state entries
+        ensures done { OnOk result ((settings : SettingsValue) (state : State) (entries : List Entry) → RestartsWith self.old settings state entries
             → HasLapsed settings state self.old self.new entries (H.media host.old) (H.media host.new) (H.acts host.old) (H.acts host.new)) }
-        ensures failed { OnErr result ((settings : SettingsValue) (state : State) (entries : List Entry) → IsKept self.old settings state entries
+        ensures failed { OnErr result ((settings : SettingsValue) (state : State) (entries : List Entry) → RestartsWith self.old settings state entries
             → LapseBroke settings state self.old entries (H.media host.old) (H.media host.new) (H.acts host.old) (H.acts host.new)) }
         ensures adds { Added (H.acts host.old) (H.acts host.new) (λ _. ⊤) }
         ensures settings { self.new.settings ≡ self.old.settings }
@@ -161,11 +161,11 @@ impl Server {
     fn lapse_at<H: Host>(&mut self, host: &mut H, place: usize) -> Result<(), DiskFault>
         requires place { place < length self.old.watch.sessions }
         requires size { needed_of self.old.journal.slots ≤ H.extent host.old }
-        ensures done { OnOk result ((settings : SettingsValue) (state : State) (entries : List Entry) → IsKept self.old settings state entries
-            → (few : List Entry) × IsKept self.new settings (lapsed_at settings place state) few
+        ensures done { OnOk result ((settings : SettingsValue) (state : State) (entries : List Entry) → RestartsWith self.old settings state entries
+            → (few : List Entry) × RestartsWith self.new settings (lapsed_at settings place state) few
             × Wrote settings state (lapsed_at settings place state) (journal.Represents self.old.journal settings entries) (journal.Represents self.new.journal settings few)
             (H.media host.old) (H.media host.new) (H.acts host.old) (H.acts host.new)) }
-        ensures failed { OnErr result ((settings : SettingsValue) (state : State) (entries : List Entry) → IsKept self.old settings state entries
+        ensures failed { OnErr result ((settings : SettingsValue) (state : State) (entries : List Entry) → RestartsWith self.old settings state entries
             → ((lapsed_at settings place state).history ≢ state.history)
             × Broke settings state (lapsed_at settings place state) (journal.Represents self.old.journal settings entries) (H.media host.old) (H.media host.new) (H.acts host.old) (H.acts host.new)) }
         ensures valid { IsSettings self.old.settings }
@@ -189,7 +189,7 @@ impl Server {
     fn turn(&mut self, place: usize, peer: u32) -> Option<u16>
         requires place { place < length self.old.watch.sessions }
         requires peer { option_map row_peer (slice_get self.old.watch.sessions place) ≡ Some peer }
-        ensures kept { (settings : SettingsValue) (state : State) (entries : List Entry) → IsKept self.old settings state entries → IsKept self.new settings (with_turn settings place state) entries }
+        ensures kept { (settings : SettingsValue) (state : State) (entries : List Entry) → RestartsWith self.old settings state entries → RestartsWith self.new settings (with_turn settings place state) entries }
         ensures lost { (settings : SettingsValue) (state : State) → Represents self.old settings state → signals state.time peer changes.Lost result ≡ loss_at settings place state }
         ensures client { IfSome result (λ domain. role_of self.old.settings peer ≡ role.Client domain) }
         ensures within { IfSome result (λ domain. domain < length self.old.settings.domains) }

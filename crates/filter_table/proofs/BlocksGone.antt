@@ -226,9 +226,9 @@ filter_map of p (x ∷ placed) =
       | false ↦ filter_map of p placed
     ]
 
-ranks_kept : (of : PlacedScrub → Rank) (p : Rank → Bool) (room : ℕ) (ranking after : RankingValue) (placed later : List PlacedScrub) → RanksAre of ranking room placed
+ranks_stay : (of : PlacedScrub → Rank) (p : Rank → Bool) (room : ℕ) (ranking after : RankingValue) (placed later : List PlacedScrub) → RanksAre of ranking room placed
     → later ≡ filter (λ x. p (of x)) placed → after ≡ ranking_value ranking.room (filter p ranking.ranks) → RanksAre of after room later
-ranks_kept of p room ranking after placed later are rows now = record {
+ranks_stay of p room ranking after placed later are rows now = record {
   in_order = ap (λ (r : RankingValue). r.ranks) now ∙ ap (filter p) are.in_order ∙ filter_ranked p (map of placed) ∙ ap ranked (filter_map of p placed) ∙ ap (λ hs. ranked (map of hs)) (sym rows);
   room_is = ap (λ (r : RankingValue). r.room) now ∙ are.room_is;
 }
@@ -252,8 +252,8 @@ goes low high room rows later turns fewer run free given ranking after marks few
         rows_number = ap length rows_are ∙ whole.stand.rows_number;
         tied = subst (λ rs. AreTied rs fewer) (sym rows_are) (subst (AreTied (emptied (filter (inside low high) turns) rows)) (sym cut) whole.stand.tied);
         in_order = subst (AreInOrder place_of_turn) (sym cut) whole.stand.in_order;
-        ranks_are = ranks_kept rank_of (is_outside low high) room ranking after (gathered rows turns) (gathered later fewer) stand.ranks_are last now;
-        marks_are = ranks_kept mark_of (is_outside low high) room marks fewer_marks (gathered rows turns) (gathered later fewer) stand.marks_are last marked;
+        ranks_are = ranks_stay rank_of (is_outside low high) room ranking after (gathered rows turns) (gathered later fewer) stand.ranks_are last now;
+        marks_are = ranks_stay mark_of (is_outside low high) room marks fewer_marks (gathered rows turns) (gathered later fewer) stand.marks_are last marked;
         slots_are = subst (HasEachSlot room given) (sym last) (subst (λ (ss : List ℕ). HasEachSlot room ss (filter (stays_outside low high) (gathered rows turns))) (sym free_is)
             (subst (HasEachSlot room (free ++ map slot_of_turn (filter (inside low high) turns))) placed whole.stand.slots_are));
       };

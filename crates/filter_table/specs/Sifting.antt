@@ -10,6 +10,6 @@ is_between low high place = nat_le low place && nat_le place high
 abbrev pub is_outside : ℕ → ℕ → Rank → Bool
 is_outside low high rank = not (is_between low high rank.place)
 
--- behind those that are kept there are holes: what stands behind them up to the end comes before them
+-- behind those that are staying there are holes: what stands behind them up to the end comes before them
 abbrev pub closed : {A : Type 0} → ℕ → ℕ → ℕ → List A → List A
-closed kept holes end xs = (take kept (take end xs) ++ (drop holes (drop kept (take end xs)) ++ take holes (drop kept (take end xs)))) ++ drop end xs
+closed staying holes end xs = (take staying (take end xs) ++ (drop holes (drop staying (take end xs)) ++ take holes (drop staying (take end xs)))) ++ drop end xs

@@ -85,21 +85,21 @@ pub record Accepts (time : ℕ) (caller : Caller) (close : Bool) (asked : RestRe
   pub reply_is : decision_reply close asked decision ≡ reply
   pub entry_is : entry_of time caller asked ≡ Some e
 
-shown_is_none : (close : Bool) (asked : RestRequest) (shown : Option RestBody) (reply : List ℕ) (e : Entry) → ¬ (showing close asked shown ≡ answer.Accept reply e)
-shown_is_none close asked None reply e is = cc is
-shown_is_none close asked (Some body) reply e is = cc is
+body_is_none : (close : Bool) (asked : RestRequest) (shown : Option RestBody) (reply : List ℕ) (e : Entry) → ¬ (showing close asked shown ≡ answer.Accept reply e)
+body_is_none close asked None reply e is = cc is
+body_is_none close asked (Some body) reply e is = cc is
 
-told_is_none : (close : Bool) (asked : RestRequest) (shown : Option RestBody) (decision : RestDecision) (reply : List ℕ) (e : Entry) → ¬ (telling close asked shown decision ≡ answer.Accept reply e)
-told_is_none close asked shown decision.Retrieved reply e is = shown_is_none close asked shown reply e is
-told_is_none close asked shown decision.Created reply e is = cc is
-told_is_none close asked shown decision.Replaced reply e is = cc is
-told_is_none close asked shown decision.Deleted reply e is = cc is
-told_is_none close asked shown decision.BadTarget reply e is = cc is
-told_is_none close asked shown decision.Taken reply e is = cc is
-told_is_none close asked shown decision.Absent reply e is = cc is
-told_is_none close asked shown decision.Exists reply e is = cc is
-told_is_none close asked shown decision.Full reply e is = cc is
-told_is_none close asked shown decision.Unchanged reply e is = cc is
+decided_is_none : (close : Bool) (asked : RestRequest) (shown : Option RestBody) (decision : RestDecision) (reply : List ℕ) (e : Entry) → ¬ (telling close asked shown decision ≡ answer.Accept reply e)
+decided_is_none close asked shown decision.Retrieved reply e is = body_is_none close asked shown reply e is
+decided_is_none close asked shown decision.Created reply e is = cc is
+decided_is_none close asked shown decision.Replaced reply e is = cc is
+decided_is_none close asked shown decision.Deleted reply e is = cc is
+decided_is_none close asked shown decision.BadTarget reply e is = cc is
+decided_is_none close asked shown decision.Taken reply e is = cc is
+decided_is_none close asked shown decision.Absent reply e is = cc is
+decided_is_none close asked shown decision.Exists reply e is = cc is
+decided_is_none close asked shown decision.Full reply e is = cc is
+decided_is_none close asked shown decision.Unchanged reply e is = cc is
 
 changed_is : (made : List ℕ) (found : Option Entry) (reply : List ℕ) (e : Entry) → changing made found ≡ answer.Accept reply e → (made ≡ reply) × (found ≡ Some e)
 changed_is made None reply e is = absurd (cc is)
@@ -111,7 +111,7 @@ accepts_by : (known : Known) (caller : Caller) (close : Bool) (asked : RestReque
 accepts_by known caller close asked decision true reply e accepted is =
     let both = changed_is (decision_reply close asked decision) (entry_of known.time caller asked) reply e is in
     record { accepted = accepted; reply_is = both.0; entry_is = both.1 }
-accepts_by known caller close asked decision false reply e accepted is = absurd (told_is_none close asked (body_of asked known.aliases known.acls) decision reply e is)
+accepts_by known caller close asked decision false reply e accepted is = absurd (decided_is_none close asked (body_of asked known.aliases known.acls) decision reply e is)
 
 pub accepts : (known : Known) (caller : Caller) (close : Bool) (asked : RestRequest) (reply : List ℕ) (e : Entry) → rest_answer known caller close asked ≡ answer.Accept reply e
     → Accepts known.time caller close asked (judge (verb_of asked) (kind_of asked) known.facts) reply e

@@ -148,8 +148,8 @@ fn show_all(alloc: Global, sessions: &mut Sessions, row: &Row<'_>) -> Option<boo
     let mut right = true;
     for step in row.rest().split("; ") {
         let mut step = Row::new(step, ": ");
-        let shown = take(alloc, sessions, &mut configs, &mut step)?;
-        right &= shown.as_str() == step.want() && step.is_read();
+        let printed = take(alloc, sessions, &mut configs, &mut step)?;
+        right &= printed.as_str() == step.want() && step.is_read();
     }
     Some(right)
 }
@@ -160,12 +160,12 @@ fn show_of(alloc: Global, settings: &Settings, row: &Row<'_>) -> Option<bool> {
 }
 
 /// Whether the steps of a row show what they are to.
-pub fn are_shown(alloc: Global, row: &Row<'_>) -> Option<bool> {
+pub fn are_printed(alloc: Global, row: &Row<'_>) -> Option<bool> {
     let mut source = MemorySource::new(alloc, SETTINGS).ok()?;
     let settings = read_settings(alloc, &mut source).ok()?;
-    let shown = show_of(alloc, &settings, row);
+    let printed = show_of(alloc, &settings, row);
     drop(settings);
-    shown
+    printed
 }
 
 #[test]

@@ -59,7 +59,7 @@ fn body_of(alloc: Global, kind: &str, aliases: &str, acls: &str) -> Option<RestB
 }
 
 /// Whether the kind, the aliases and the lists of a row make the body behind them.
-pub fn is_shown(alloc: Global, row: &mut Row<'_>) -> Option<bool> {
+pub fn is_printed(alloc: Global, row: &mut Row<'_>) -> Option<bool> {
     let kind = row.text("|");
     let aliases = row.text("|");
     let body = body_of(alloc, kind, aliases, row.rest())?;

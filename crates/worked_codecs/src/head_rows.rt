@@ -45,7 +45,7 @@ fn writes_the_lines_in_order(rt: HostRuntime) {
         )
     );
 
-    let shown = ReplyHead {
+    let printed = ReplyHead {
         status: 200,
         json: true,
         length: 83,
@@ -53,7 +53,7 @@ fn writes_the_lines_in_order(rt: HostRuntime) {
     };
     assert!(rt;
         is_text(
-            &shown,
+            &printed,
             b"HTTP/1.1 200 OK\r\nContent-Type: application/yang-data+json\r\nContent-Length: 83\r\n\r\n",
         )
     );

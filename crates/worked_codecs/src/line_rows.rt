@@ -49,7 +49,7 @@ impl Buffers for Nothing {
     fn clear(&mut self) {}
 }
 
-fn shown(table: &mut StreamTable<Nothing>, peer: u32, conn: u32) -> char {
+fn letter_of(table: &mut StreamTable<Nothing>, peer: u32, conn: u32) -> char {
     if peer == 9 {
         table.forget(conn);
         return 'c';
@@ -65,7 +65,7 @@ fn are_taken(alloc: Global, settings: &Settings) -> Option<bool> {
     let mut table = StreamTable::<Nothing>::new(alloc, settings).ok()?;
     let mut right = true;
     for (peer, conn, want) in STEPS {
-        right &= shown(&mut table, peer, conn) == want;
+        right &= letter_of(&mut table, peer, conn) == want;
     }
     table.clear();
     Some(right && table.place(9).is_none())

@@ -26,7 +26,7 @@ fn is_located(alloc: Global) -> Option<bool> {
 }
 
 /// The reply to a GET has its body.
-fn is_shown(alloc: Global) -> Option<bool> {
+fn is_printed(alloc: Global) -> Option<bool> {
     let text = Bytes::from_slice(alloc, b"{}").ok()?;
     let reply = content_reply(alloc, false, &text).ok()?;
     let wanted =
@@ -54,7 +54,7 @@ fn replies_and_entries_are_made(rt: HostRuntime) {
     let alloc = rt.alloc();
     assert!(rt;
         is_located(alloc) == Some(true)
-            && is_shown(alloc) == Some(true)
+            && is_printed(alloc) == Some(true)
             && is_registered(alloc) == Some(true)
     );
 }

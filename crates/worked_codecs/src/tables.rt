@@ -94,9 +94,9 @@ fn is_right(alloc: Global, rows: Rows<'_>, row: &mut Row<'_>) -> Option<bool> {
         Rows::Low => clock_rows::is_low(alloc, row),
         Rows::Many => clock_rows::keeps_many(alloc, row),
         Rows::Scans => clock_scans::are_same(alloc, row),
-        Rows::Beats => beat_rows::are_shown(alloc, row),
+        Rows::Beats => beat_rows::are_printed(alloc, row),
         Rows::Members(form) => data_asking::is_worded_in(alloc, form, row),
-        Rows::Bodies => body_rows::is_shown(alloc, row),
+        Rows::Bodies => body_rows::is_printed(alloc, row),
     }
 }
 

@@ -34,7 +34,7 @@ fn are_printed(alloc: Global) -> bool {
 }
 
 /// Whether an empty word is shown as one that isn't hexadecimal.
-fn is_nothing_shown(alloc: Global) -> bool {
+fn is_nothing_printed(alloc: Global) -> bool {
     match lines_of(alloc, b"") {
         Ok(Printed::Fault(lines)) => lines.items() == b"fault hex\n".as_slice(),
         _ => false,
@@ -43,6 +43,6 @@ fn is_nothing_shown(alloc: Global) -> bool {
 
 #[test]
 fn digits_are_read(rt: HostRuntime) {
-    assert!(rt; are_printed(rt.alloc()) && is_nothing_shown(rt.alloc()));
+    assert!(rt; are_printed(rt.alloc()) && is_nothing_printed(rt.alloc()));
     all_hold(&rt, rt.alloc(), Rows::Worded(Worded::Digits), DIGITS);
 }

@@ -7,7 +7,7 @@ use Rattle.slot_store.specs.Layout.{needed_of}
 use Rattle.slot_journal.specs.DiskEntries as journal
 use Rattle.dots_machine.specs.Machine.{State}
 use Rattle.dots_machine.specs.Endings.{AnyRestart}
-use Rattle.dots_server.specs.ServerValues.{IsKept}
+use Rattle.dots_server.specs.ServerValues.{RestartsWith}
 use Rattle.dots_server.proofs.Turns.{LivesOn}
 use Rattle.dots_server.proofs.events.take_events.Given as goal
 
@@ -20,10 +20,10 @@ invariant-loop-turn g l = record {
   size : needed_of l.server.journal.slots ≤ g.H.Disk.extent l.host;
   settings : l.server.settings ≡ l.fn.server.settings;
   adds : Added (g.H.Wire.acts l.fn.host) (g.H.Wire.acts l.host) (λ _. Unit {0});
-  rested : (settings : SettingsValue) (start : State) (stored : List Entry) → IsKept l.fn.server settings start stored → RestsWith (g.H.Disk.media l.fn.host) (journal.Represents l.fn.server.journal settings stored)
+  rested : (settings : SettingsValue) (start : State) (stored : List Entry) → RestartsWith l.fn.server settings start stored → RestsWith (g.H.Disk.media l.fn.host) (journal.Represents l.fn.server.journal settings stored)
       → LivesOn settings start l.server l._turn (RestsWith (g.H.Disk.media l.fn.host) (journal.Represents l.fn.server.journal settings stored)) (g.H.Disk.media l.fn.host) (g.H.Disk.media l.host)
       (g.H.Wire.acts l.fn.host) (g.H.Wire.acts l.host);
-  lives : (settings : SettingsValue) (start : State) (stored : List Entry) → IsKept l.fn.server settings start stored
+  lives : (settings : SettingsValue) (start : State) (stored : List Entry) → RestartsWith l.fn.server settings start stored
       → Added (g.H.Wire.acts l.fn.host) (g.H.Wire.acts l.host) AnyRestart
       ⊎ LivesOn settings start l.server l._turn (RestsWith (g.H.Disk.media l.fn.host) (journal.Represents l.fn.server.journal settings stored)) (g.H.Disk.media l.fn.host) (g.H.Disk.media l.host)
       (g.H.Wire.acts l.fn.host) (g.H.Wire.acts l.host);

@@ -17,7 +17,7 @@ loop-end-preserved c =
     let below : c.loop-end.holes ≤ c.loop-end.end = omega (arith, c.loop-end.invariant.place) in
     let same : c.loop-end.end + 1 ≡ c.loop-end.end - c.loop-end.holes + (c.loop-end.holes + 1) = omega (arith, below) in
     record {
-      state = sift_next (is_outside c.args.low c.args.high) c.args.ranks.now c.loop-end.ranks c.close_all.new.ranks c.loop-end.kept c.loop-end.holes c.loop-end.end (c.loop-end.end - c.loop-end.holes)
+      state = sift_next (is_outside c.args.low c.args.high) c.args.ranks.now c.loop-end.ranks c.close_all.new.ranks c.loop-end.staying c.loop-end.holes c.loop-end.end (c.loop-end.end - c.loop-end.holes)
           c.loop-end.numbers c.close_all.new.numbers c.loop-end.slots c.close_all.new.slots c.loop-end.levels.items c.take_one.new.levels.items _
           c.loop-end.invariant.state c.loop-end.invariant.place (omega (arith, c.loop-end-test.true, c.loop-end.auto.ranks)) (omega (arith, below))
           c.close_all.ensures.ranks c.close_all.ensures.numbers c.close_all.ensures.slots c.take_one.ensures.items;
@@ -30,7 +30,7 @@ loop-end-preserved c =
 pub returns-clause-ranks : goal.returns-clause-ranks
 returns-clause-ranks c =
     let below : c.loop-end.holes ≤ c.loop-end.end = omega (arith, c.loop-end.invariant.place) in
-    let left = sift_end (is_outside c.args.low c.args.high) c.args.ranks.now c.loop-end.ranks c.close_all-2.new.ranks c.loop-end.kept c.loop-end.holes (length c.args.ranks.now) (length c.args.ranks.now - c.loop-end.holes)
+    let left = sift_end (is_outside c.args.low c.args.high) c.args.ranks.now c.loop-end.ranks c.close_all-2.new.ranks c.loop-end.staying c.loop-end.holes (length c.args.ranks.now) (length c.args.ranks.now - c.loop-end.holes)
     c.loop-end.numbers c.close_all-2.new.numbers c.loop-end.slots c.close_all-2.new.slots c.loop-end.levels.items c.loop-end.invariant.state
     (omega (arith, c.loop-end.invariant.place, c.loop-end.invariant.within, c.loop-end-test.false, c.loop-end.auto.ranks)) (omega (arith, c.loop-end.auto.ranks))
     (omega (arith, below, c.loop-end.invariant.within, c.loop-end.auto.ranks)) c.close_all-2.ensures.ranks c.close_all-2.ensures.numbers c.close_all-2.ensures.slots in
@@ -39,7 +39,7 @@ returns-clause-ranks c =
 pub returns-clause-numbers : goal.returns-clause-numbers
 returns-clause-numbers c =
     let below : c.loop-end.holes ≤ c.loop-end.end = omega (arith, c.loop-end.invariant.place) in
-    let left = sift_end (is_outside c.args.low c.args.high) c.args.ranks.now c.loop-end.ranks c.close_all-2.new.ranks c.loop-end.kept c.loop-end.holes (length c.args.ranks.now) (length c.args.ranks.now - c.loop-end.holes)
+    let left = sift_end (is_outside c.args.low c.args.high) c.args.ranks.now c.loop-end.ranks c.close_all-2.new.ranks c.loop-end.staying c.loop-end.holes (length c.args.ranks.now) (length c.args.ranks.now - c.loop-end.holes)
     c.loop-end.numbers c.close_all-2.new.numbers c.loop-end.slots c.close_all-2.new.slots c.loop-end.levels.items c.loop-end.invariant.state
     (omega (arith, c.loop-end.invariant.place, c.loop-end.invariant.within, c.loop-end-test.false, c.loop-end.auto.ranks)) (omega (arith, c.loop-end.auto.ranks))
     (omega (arith, below, c.loop-end.invariant.within, c.loop-end.auto.ranks)) c.close_all-2.ensures.ranks c.close_all-2.ensures.numbers c.close_all-2.ensures.slots in
@@ -48,7 +48,7 @@ returns-clause-numbers c =
 pub returns-clause-slots : goal.returns-clause-slots
 returns-clause-slots c =
     let below : c.loop-end.holes ≤ c.loop-end.end = omega (arith, c.loop-end.invariant.place) in
-    let left = sift_end (is_outside c.args.low c.args.high) c.args.ranks.now c.loop-end.ranks c.close_all-2.new.ranks c.loop-end.kept c.loop-end.holes (length c.args.ranks.now) (length c.args.ranks.now - c.loop-end.holes)
+    let left = sift_end (is_outside c.args.low c.args.high) c.args.ranks.now c.loop-end.ranks c.close_all-2.new.ranks c.loop-end.staying c.loop-end.holes (length c.args.ranks.now) (length c.args.ranks.now - c.loop-end.holes)
     c.loop-end.numbers c.close_all-2.new.numbers c.loop-end.slots c.close_all-2.new.slots c.loop-end.levels.items c.loop-end.invariant.state
     (omega (arith, c.loop-end.invariant.place, c.loop-end.invariant.within, c.loop-end-test.false, c.loop-end.auto.ranks)) (omega (arith, c.loop-end.auto.ranks))
     (omega (arith, below, c.loop-end.invariant.within, c.loop-end.auto.ranks)) c.close_all-2.ensures.ranks c.close_all-2.ensures.numbers c.close_all-2.ensures.slots in
@@ -57,7 +57,7 @@ returns-clause-slots c =
 pub returns-clause-levels : goal.returns-clause-levels
 returns-clause-levels c =
     let below : c.loop-end.holes ≤ c.loop-end.end = omega (arith, c.loop-end.invariant.place) in
-    let left = sift_end (is_outside c.args.low c.args.high) c.args.ranks.now c.loop-end.ranks c.close_all-2.new.ranks c.loop-end.kept c.loop-end.holes (length c.args.ranks.now) (length c.args.ranks.now - c.loop-end.holes)
+    let left = sift_end (is_outside c.args.low c.args.high) c.args.ranks.now c.loop-end.ranks c.close_all-2.new.ranks c.loop-end.staying c.loop-end.holes (length c.args.ranks.now) (length c.args.ranks.now - c.loop-end.holes)
     c.loop-end.numbers c.close_all-2.new.numbers c.loop-end.slots c.close_all-2.new.slots c.loop-end.levels.items c.loop-end.invariant.state
     (omega (arith, c.loop-end.invariant.place, c.loop-end.invariant.within, c.loop-end-test.false, c.loop-end.auto.ranks)) (omega (arith, c.loop-end.auto.ranks))
     (omega (arith, below, c.loop-end.invariant.within, c.loop-end.auto.ranks)) c.close_all-2.ensures.ranks c.close_all-2.ensures.numbers c.close_all-2.ensures.slots in

@@ -9,9 +9,9 @@ use Rattle.dots_machine.proofs.Hearing.{after_observers}
 use Rattle.dots_machine.proofs.Observing.{notified_history, notified_time}
 use Rattle.dots_machine.proofs.Surviving.{verdict_grows}
 use Rattle.dots_server.specs.Observing.{changed}
-use Rattle.dots_server.specs.ServerValues.{ServerValue, IsKept}
+use Rattle.dots_server.specs.ServerValues.{ServerValue, RestartsWith}
 use Rattle.dots_server.specs.Turning.{TurnedTo, Broke}
-use Rattle.dots_server.proofs.Notifying.{observed_kept}
+use Rattle.dots_server.proofs.Notifying.{observed_restarts}
 use Rattle.dots_server.proofs.Turning.{notices_behind}
 use Rattle.dots_server.proofs.Watching.{spoken_sends, spoken_after, spoken_accepts}
 use Rattle.dots_server.proofs.server.Server.answer.Goals as goal
@@ -49,14 +49,14 @@ returns-clause-done g c = λ settings state here entries datagram kept came hear
     let carried = c.in-Ok.ensures.done settings here entries kept in
     let few = carried.0 in
     let same_after : after said here ≡ after does.decided here = ap (λ v. after v here) does.does.verdict_is ∙ spoken_after number does.decided here in
-    let after_kept = subst (λ (now : State). IsKept c.carry_out.new.self settings now few) same_after carried.1 in
+    let after_kept = subst (λ (now : State). RestartsWith c.carry_out.new.self settings now few) same_after carried.1 in
     let observed_now =
-    observed_kept c.carry_out.new.self peer watching settings (after does.decided here) few does.asked does.decided replies after_kept
+    observed_restarts c.carry_out.new.self peer watching settings (after does.decided here) few does.asked does.decided replies after_kept
     (λ lists.
     subst (λ (os : List ObservedValue). observing settings lists peer does.asked does.decided replies os ≡ changed settings.limits.observers lists peer watching os) (sym (after_observers does.decided here))
     (does.does.observers lists)) in
     let from : State = watched settings peer does.asked does.decided replies (after does.decided here) in
-    let told = c.notify.ensures.notified settings from few (subst (λ (server : ServerValue). IsKept server settings from few) (sym c.observe.ensures) observed_now) in
+    let told = c.notify.ensures.notified settings from few (subst (λ (server : ServerValue). RestartsWith server settings from few) (sym c.observe.ensures) observed_now) in
     let notices = told.0 in
     let new = told.1 in
     let history_is : new.history ≡ (after does.decided here).history = notified_history settings from new notices told.2 in

@@ -10,7 +10,7 @@ use Rattle.stream_table.specs.Places.{IsAt, line_at}
 use Rattle.rest_answers.specs.Replies.{refusal}
 use Rattle.rest_answers.specs.Turns.{reply_in, closing}
 use Rattle.dots_registry.proofs.Answering.{err_of}
-use Rattle.dots_server.specs.ServerValues.{ServerValue, IsKept}
+use Rattle.dots_server.specs.ServerValues.{ServerValue, RestartsWith}
 use Rattle.dots_server.specs.Turning.{TurnedTo, Broke}
 use Rattle.dots_server.specs.Pieces.{CanAnswer, having, bytes_on}
 use Rattle.dots_server.proofs.Rows.{lines_behind_request, bytes_gone, bytes_behind}
@@ -105,7 +105,7 @@ returns-in_err-send_answer-in-Answered-clause-failed g c =
     let host = c.args.host.now in
     let left = c.send_answer.new.host in
     let same = c.front_at.ensures.same in
-    let failed = c.in_err-send_answer-in-Answered.ensures.failed settings state entries (subst (λ (server : ServerValue). IsKept server settings state entries) (sym same) kept) in
+    let failed = c.in_err-send_answer-in-Answered.ensures.failed settings state entries (subst (λ (server : ServerValue). RestartsWith server settings state entries) (sym same) kept) in
     request_broke settings conn c.args.place c.args.self.now at state entries kept c.in-Answered.size c.in-Answered.close c.in-Answered.answer
     (c.in-Answered.ensures.stands conn at settings state kept.represents.represents) (g.H.Disk.media host) (g.H.Disk.media left) (g.H.Wire.acts host) (g.H.Wire.acts left) failed.0
     (subst
@@ -129,7 +129,7 @@ returns-in-Answered-clause-done g c = λ settings state entries kept.
     let between = c.send_answer.new.host in
     let left = c.end_request.new.host in
     let same = c.front_at.ensures.same in
-    let said = c.in_ok-send_answer-in-Answered.ensures.done settings state entries (subst (λ (server : ServerValue). IsKept server settings state entries) (sym same) kept) in
+    let said = c.in_ok-send_answer-in-Answered.ensures.done settings state entries (subst (λ (server : ServerValue). RestartsWith server settings state entries) (sym same) kept) in
     request_answered settings conn c.args.place c.args.self.now at state entries kept c.in-Answered.size c.in-Answered.close c.in-Answered.answer
     (c.in-Answered.ensures.stands conn at settings state kept.represents.represents) c.send_answer.new.self c.end_request.new.self said.0 (g.H.Disk.media host) (g.H.Disk.media between) (g.H.Disk.media left)
     (g.H.Wire.moment between) (g.H.Wire.moment left) (g.H.Wire.acts host) (g.H.Wire.acts between) (g.H.Wire.acts left) said.1

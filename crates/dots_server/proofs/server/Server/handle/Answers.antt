@@ -14,12 +14,12 @@ use Rattle.session_core.specs.Notifying.{SentTo, IsKnown}
 use Rattle.session_core.proofs.Sends.{sent_then, keeps_then}
 use Rattle.stream_table.specs.Lines.{opened, opening, forgotten}
 use Rattle.dots_machine.specs.Machine.{later, lapsed, beating, connected, disconnected, turned_away}
-use Rattle.dots_server.specs.ServerValues.{ServerValue, IsKept}
+use Rattle.dots_server.specs.ServerValues.{ServerValue, RestartsWith}
 use Rattle.dots_server.specs.Observing.{MayNotify}
 use Rattle.dots_server.specs.Turning.{Turned}
 use Rattle.dots_server.specs.Taking.{stored_of}
-use Rattle.dots_server.proofs.Looping.{kept_stored}
-use Rattle.dots_server.proofs.Connecting.{lines_kept}
+use Rattle.dots_server.proofs.Looping.{restarts_stored}
+use Rattle.dots_server.proofs.Connecting.{lines_restarts}
 use Rattle.dots_server.proofs.Turning.{unwritten}
 use Rattle.dots_server.proofs.Following.{added_on}
 use Rattle.dots_server.proofs.TakingPieces.{piece_took, piece_broke_off}
@@ -140,8 +140,8 @@ returns-in-Opened-clause-done g c = λ settings state entries kept.
     let moved = c.move_time-in-Opened.ensures.kept settings state entries kept in
     let sends = turned_away conn (opening peer conn state.lines) in
     let new = connected peer conn now in
-    let kept_so : IsKept c.open_connection.new.self settings new entries =
-    subst (λ server. IsKept server settings new entries) (sym c.open_connection.ensures.lines) (lines_kept (opened peer conn) between settings now entries moved) in
+    let kept_so : RestartsWith c.open_connection.new.self settings new entries =
+    subst (λ server. RestartsWith server settings new entries) (sym c.open_connection.ensures.lines) (lines_restarts (opened peer conn) between settings now entries moved) in
     let sent : Added (g.H.Wire.acts host) (g.H.Wire.acts left) (SentTo (g.H.Wire.moment host) (g.H.Wire.moment left) sends) =
     subst (λ lines. Added (g.H.Wire.acts host) (g.H.Wire.acts left) (SentTo (g.H.Wire.moment host) (g.H.Wire.moment left) (turned_away conn (opening peer conn lines))))
     moved.represents.represents.lines c.open_connection.ensures.sent in
@@ -158,7 +158,7 @@ returns-in-Opened-clause-done g c = λ settings state entries kept.
         g.H.Wire.acts left,
         refl,
         ([], sym (append-nil state.history)),
-        kept_stored c.open_connection.new.self settings new entries kept_so,
+        restarts_stored c.open_connection.new.self settings new entries kept_so,
         subst
             (λ (j : JournalValue). Turned settings state new sends (journal.Represents c.args.self.now.journal settings entries) (journal.Represents j settings entries) (g.H.Disk.media host) (g.H.Disk.media left)
             (g.H.Wire.acts host) (g.H.Wire.acts left))
@@ -181,8 +181,8 @@ returns-in-Closed-clause-done g c = λ settings state entries kept.
       new = new;
       few = entries;
       step = rw c.in-Closed.is (refl, refl);
-      kept = subst (λ server. IsKept server settings new entries) (sym c.forget_connection.ensures)
-          (lines_kept (forgotten conn) between settings now entries (c.move_time-in-Closed.ensures.kept settings state entries kept));
+      kept = subst (λ server. RestartsWith server settings new entries) (sym c.forget_connection.ensures)
+          (lines_restarts (forgotten conn) between settings now entries (c.move_time-in-Closed.ensures.kept settings state entries kept));
       chained = (
         ap (λ (j : JournalValue). record { journal = j; entries = entries })
             (ap (λ (server : ServerValue). server.journal) c.forget_connection.ensures ∙ c.move_time-in-Closed.ensures.journal),

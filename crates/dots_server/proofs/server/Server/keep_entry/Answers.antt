@@ -7,9 +7,9 @@ use Rattle.slot_journal.specs.DiskEntries as journal
 use Rattle.dots_registry.specs.RegistryValues.{time_of, number_remembered}
 use Rattle.dots_registry.proofs.Answering.{err_of}
 use Rattle.dots_machine.specs.Machine.{with_entry}
-use Rattle.dots_server.specs.ServerValues.{ServerValue, IsKept, IsAcceptable}
+use Rattle.dots_server.specs.ServerValues.{ServerValue, RestartsWith, IsAcceptable}
 use Rattle.dots_server.specs.Turning.{HasTurn, Wrote}
-use Rattle.dots_server.proofs.ServerValues.{can_accept, joins_there, own_with, kept_with, lives_with, lives_still}
+use Rattle.dots_server.proofs.ServerValues.{can_accept, joins_there, own_with, restarts_with, lives_with, lives_still}
 use Rattle.dots_server.proofs.Turning.{silent_adds, accepting}
 use Rattle.dots_server.proofs.server.Server.keep_entry.Goals as goal
 
@@ -37,7 +37,7 @@ returns-in_err-accept-clause-failed g c =
     let host = c.args.host.now in
     let left = c.accept.new.disk in
     let can = subst (λ server. IsAcceptable server entry) (sym c.self.view_is) c.requires.ready in
-    let here = subst (λ server. IsKept server settings state entries) (sym c.self.view_is) kept in
+    let here = subst (λ server. RestartsWith server settings state entries) (sym c.self.view_is) kept in
     let of = here.represents.represents in
     let joins = joins_there old settings state entry of can in
     let writes : RestsWith (g.H.Disk.media host) (journal.Represents old.journal settings entries) → Leaves (g.H.Disk.media host) (g.H.Disk.media left) (HasTurn settings state (with_entry state entry)) = λ rests.
@@ -86,7 +86,7 @@ returns-clause-done g c = λ settings state entries kept.
     let host = c.args.host.now in
     let left = c.accept.new.disk in
     let can = subst (λ server. IsAcceptable server entry) (sym c.self.view_is) c.requires.ready in
-    let here = subst (λ server. IsKept server settings state entries) (sym c.self.view_is) kept in
+    let here = subst (λ server. RestartsWith server settings state entries) (sym c.self.view_is) kept in
     let of = here.represents.represents in
     let joins = joins_there old settings state entry of can in
     let made = c.in_ok-accept.ensures.accepted settings state.history entries here.represents.ledger joins in
@@ -94,7 +94,7 @@ returns-clause-done g c = λ settings state entries kept.
     accepting settings (number_remembered old.registry) (time_of old.registry) state entry (g.H.Disk.media host) (g.H.Disk.media left) (ap (λ (limits : Limits). limits.remembered) of.is_of.limits) of.time_is
     (can.now ∙ of.time_is) (c.accept.ensures.moments settings state.history entries here.represents.ledger joins rests) in (
       made.0,
-      kept_with entry old new can refl watch_is refl c.accept.ensures.slots c.in_ok-accept.ensures.time settings state entries made.0 here.represents made.1,
+      restarts_with entry old new can refl watch_is refl c.accept.ensures.slots c.in_ok-accept.ensures.time settings state entries made.0 here.represents made.1,
       subst
           (λ (server : ServerValue). Wrote settings state (with_entry state entry) (journal.Represents server.journal settings entries) (journal.Represents c.accept.new.self.journal settings made.0)
           (g.H.Disk.media host) (g.H.Disk.media left) (g.H.Wire.acts host) (g.H.Wire.acts left))

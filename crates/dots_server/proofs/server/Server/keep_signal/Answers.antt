@@ -7,7 +7,7 @@ use Rattle.dots_registry.specs.RegistryValues.{time_of}
 use Rattle.dots_registry.proofs.Answering.{ok_as, err_as}
 use Rattle.dots_machine.specs.Signals.{signal_entry}
 use Rattle.dots_machine.specs.Machine.{with_entry}
-use Rattle.dots_server.specs.ServerValues.{ServerValue, IsKept, IsAcceptable}
+use Rattle.dots_server.specs.ServerValues.{ServerValue, RestartsWith, IsAcceptable}
 use Rattle.dots_server.specs.Turning.{Wrote, Broke}
 use Rattle.dots_server.proofs.LostSignals.{loss_needs_none, signal_acceptable}
 use Rattle.dots_server.proofs.server.Server.keep_signal.Goals as goal
@@ -31,7 +31,7 @@ returns-in-Ok-clause-done g c =
     let left = c.keep_entry.new.host in
     let at = c.time-time.ensures ∙ ap time_of c.registry.ensures ∙ ap (λ (server : ServerValue). time_of server.registry) c.self.view_is ∙ kept.represents.represents.time_is in
     subst
-    (λ (e : Entry). (few : List Entry) × IsKept c.keep_entry.new.self settings (with_entry state e) few
+    (λ (e : Entry). (few : List Entry) × RestartsWith c.keep_entry.new.self settings (with_entry state e) few
     × Wrote settings state (with_entry state e) (journal.Represents c.args.self.now.journal settings entries) (journal.Represents c.keep_entry.new.self.journal settings few)
     (g.H.Disk.media host) (g.H.Disk.media left) (g.H.Wire.acts host) (g.H.Wire.acts left))
     (c.in-Ok.ensures.value ∙ c.signal_entry-entry.ensures ∙ ap (λ t. signal_entry t c.args.peer c.args.change c.args.domain) at)

@@ -3,7 +3,7 @@ use Rattle.dots_history.specs.declared.change.Change.TheVariants as change
 use Rattle.dots_registry.proofs.Answering.{ok_as, err_as}
 use Rattle.dots_server.specs.Signals.{with_turn, lapsed_at}
 use Rattle.dots_server.proofs.LostSignals.{is_loss_lost}
-use Rattle.dots_server.proofs.Meeting.{nothing_kept, one_kept, one_broke}
+use Rattle.dots_server.proofs.Meeting.{nothing_restarts, one_restarts, one_broke}
 use Rattle.dots_server.proofs.server.Server.lapse_at.Goals as goal
 
 pub keep_signal-requires-clause-loss : goal.keep_signal-requires-clause-loss
@@ -19,7 +19,7 @@ returns-in-Some-clause-done g c =
     let base = with_turn settings place state in
     let mid_kept = c.turn.ensures.kept settings state entries kept in
     let (few, new_kept, wrote) = goes settings base entries mid_kept in
-    one_kept settings state base (lapsed_at settings place state) peer change.Lost c.turn.result refl
+    one_restarts settings state base (lapsed_at settings place state) peer change.Lost c.turn.result refl
     (ap (λ more. record (with_turn settings place state) { history = state.history ++ more }) (sym (c.turn.ensures.lost settings state kept.represents.represents)))
     c.args.self.now c.turn.new.self entries c.turn.ensures.journal c.in-Some.domain c.in-Some.is
     c.keep_signal.new.self (g.H.Disk.media host) (g.H.Disk.media left) (g.H.Wire.acts host) (g.H.Wire.acts left) few new_kept wrote)
@@ -47,7 +47,7 @@ returns-in-None-clause-done g c = λ settings state entries kept.
     let host = c.args.host.now in
     let base = with_turn settings place state in
     let mid_kept = c.turn.ensures.kept settings state entries kept in
-    nothing_kept settings state base (lapsed_at settings place state) peer change.Lost c.turn.result refl
+    nothing_restarts settings state base (lapsed_at settings place state) peer change.Lost c.turn.result refl
     (ap (λ more. record (with_turn settings place state) { history = state.history ++ more }) (sym (c.turn.ensures.lost settings state kept.represents.represents)))
     c.args.self.now c.turn.new.self entries c.turn.ensures.journal c.in-None.is
     mid_kept (g.H.Disk.media host) (g.H.Wire.acts host)

@@ -5,8 +5,8 @@ use Rattle.session_core.specs.Notifying.{Notifies, IsKnown, OnlyUnheardAreDue}
 use Rattle.dots_registry.specs.RegistryValues.{RegistryValue}
 use Rattle.dots_registry.specs.ObserverViews.{views_of}
 use Rattle.dots_server.specs.Observing.{bodies_of}
-use Rattle.dots_server.specs.ServerValues.{ServerValue, IsKept}
-use Rattle.dots_server.proofs.Notifying.{notified_kept, notified_lives, notified_so}
+use Rattle.dots_server.specs.ServerValues.{ServerValue, RestartsWith}
+use Rattle.dots_server.proofs.Notifying.{notified_restarts, notified_lives, notified_so}
 use Rattle.dots_server.proofs.server.Server.notify.Goals as goal
 
 pub invariant_of-self : goal.invariant_of-self
@@ -28,7 +28,7 @@ returns-clause-known g c =
 pub returns-clause-notified : goal.returns-clause-notified
 returns-clause-notified g c = λ settings state entries kept.
     let old : ServerValue = record { settings = c.self.inside.settings; registry = c.self.inside.ledger.registry; journal = c.self.inside.ledger.journal; watch = c.self.inside.watch; lines = c.self.inside.lines } in
-    let here = subst (λ server. IsKept server settings state entries) (sym c.self.view_is) kept in
+    let here = subst (λ server. RestartsWith server settings state entries) (sym c.self.view_is) kept in
     let watch = c.notify.new.watch in
     let notified = c.notify.ensures.notified in
     let new : State = record state { observers = watch.observers.observed; contacts = watch.sessions } in (
@@ -36,7 +36,7 @@ returns-clause-notified g c = λ settings state entries kept.
       new,
       notified_so old watch c.notify.ensures.room c.notify.ensures.pairs settings state notified.0 here.represents.represents
           (subst (λ (tables : RegistryValue). Notifies (views_of tables) (bodies_of tables) old.watch.observers.observed old.watch.sessions notified.0 watch.observers.observed watch.sessions) c.registry.ensures notified.1),
-      notified_kept old watch c.notify.ensures.room c.notify.ensures.pairs settings state entries here,
+      notified_restarts old watch c.notify.ensures.room c.notify.ensures.pairs settings state entries here,
       notified.2,
     )
 

@@ -6,7 +6,7 @@ use Rattle.dots_machine.specs.Machine.{receiving}
 use Rattle.dots_registry.proofs.Answering.{err_of}
 use Rattle.dots_server.specs.ServerValues.{ServerValue}
 use Rattle.dots_server.proofs.Rows.{still_at, bytes_more}
-use Rattle.dots_server.proofs.Fronts.{is_answered, is_resting, all_held, rests_nowhere, held_kept, piece_rests, piece_answered, piece_broke}
+use Rattle.dots_server.proofs.Fronts.{is_answered, is_resting, all_held, rests_nowhere, held_restarts, piece_rests, piece_answered, piece_broke}
 use Rattle.dots_server.proofs.server.Server.take_front.Goals as goal
 
 -- ---- the connection isn't there
@@ -50,7 +50,7 @@ returns-in_err-answer_front-clause-failed g c =
     let media_new = g.H.Disk.media c.answer_front.new.host in
     let acts = g.H.Wire.acts c.args.host.now in
     let acts_new = g.H.Wire.acts c.answer_front.new.host in
-    let here = held_kept settings conn rest state c.args.self.now entries kept media media_new acts acts_new n c.in-Some.place at c.hold-taken.new.self holds c.hold-taken.ensures.others in
+    let here = held_restarts settings conn rest state c.args.self.now entries kept media media_new acts acts_new n c.in-Some.place at c.hold-taken.new.self holds c.hold-taken.ensures.others in
     piece_broke settings conn rest state c.args.self.now entries kept media media_new acts acts_new n c.in-Some.place at c.hold-taken.new.self holds c.hold-taken.ensures.others c.place.ensures.apart
     (c.in_err-answer_front.ensures.failed settings (receiving conn (take n rest) state) entries here))
 
@@ -66,7 +66,7 @@ returns-then-branch-clause-done g c = λ settings state entries kept.
     let media_new = g.H.Disk.media c.answer_front.new.host in
     let acts = g.H.Wire.acts c.args.host.now in
     let acts_new = g.H.Wire.acts c.answer_front.new.host in
-    let here = held_kept settings conn rest state c.args.self.now entries kept media media_new acts acts_new n c.in-Some.place at c.hold-taken.new.self holds c.hold-taken.ensures.others in
+    let here = held_restarts settings conn rest state c.args.self.now entries kept media media_new acts acts_new n c.in-Some.place at c.hold-taken.new.self holds c.hold-taken.ensures.others in
     piece_answered settings conn rest state c.args.self.now entries kept media media_new acts acts_new n c.in-Some.place at c.hold-taken.new.self holds c.hold-taken.ensures.others c.place.ensures.apart
     c.answer_front.new.self
     (is_answered _ settings conn (receiving conn (take n rest) state) c.hold-taken.new.self c.answer_front.new.self entries media media_new acts acts_new c.if-branch.true
@@ -96,7 +96,7 @@ returns-clause-done g c = λ settings state entries kept.
     let media_new = g.H.Disk.media c.answer_front.new.host in
     let acts = g.H.Wire.acts c.args.host.now in
     let acts_new = g.H.Wire.acts c.answer_front.new.host in
-    let here = held_kept settings conn rest state c.args.self.now entries kept media media_new acts acts_new n c.in-Some.place at c.hold-taken.new.self holds c.hold-taken.ensures.others in
+    let here = held_restarts settings conn rest state c.args.self.now entries kept media media_new acts acts_new n c.in-Some.place at c.hold-taken.new.self holds c.hold-taken.ensures.others in
     let room = c.in_ok-answer_front.ensures.room c.if-branch.false (buffered_by (with_more (take n rest)) at.line) holds.there in
     piece_rests settings conn rest state c.args.self.now entries kept media media_new acts acts_new n c.in-Some.place at c.hold-taken.new.self holds c.hold-taken.ensures.others
     c.answer_front.new.self (all_held n rest at.line.buffered (c.hold-taken.ensures.count at.line at.there) room)

@@ -6,11 +6,11 @@ use Rattle.dots_history.specs.declared.change.Change.TheVariants as change
 use Rattle.session_core.specs.Beating.{turn_loses, row_turned}
 use Rattle.session_core.specs.Places.{row_peer, with_place}
 use Rattle.dots_registry.specs.RegistryValues.{time_of}
-use Rattle.dots_server.specs.ServerValues.{ServerValue, Represents, IsKept}
+use Rattle.dots_server.specs.ServerValues.{ServerValue, Represents, RestartsWith}
 use Rattle.dots_server.specs.Signals.{signals, with_turn}
 use Rattle.dots_server.proofs.Lapsing.{placed_length}
 use Rattle.dots_server.proofs.LostSignals.{passing_keeps}
-use Rattle.dots_server.proofs.OneTurn.{beat_there, turn_is, loss_at_is, sessions_kept, sessions_live}
+use Rattle.dots_server.proofs.OneTurn.{beat_there, turn_is, loss_at_is, sessions_restarts, sessions_live}
 use Rattle.dots_server.proofs.server.Server.turn.Goals as goal
 
 pub invariant_of-self : goal.invariant_of-self
@@ -21,7 +21,7 @@ invariant_of-self c =
 pub returns-clause-kept : goal.returns-clause-kept
 returns-clause-kept c = λ settings state entries kept.
     let old : ServerValue = record { settings = c.self.inside.settings; registry = c.self.inside.ledger.registry; journal = c.self.inside.ledger.journal; watch = c.self.inside.watch; lines = c.self.inside.lines } in
-    let here = subst (λ server. IsKept server settings state entries) (sym c.self.view_is) kept in
+    let here = subst (λ server. RestartsWith server settings state entries) (sym c.self.view_is) kept in
     let of = here.represents.represents in
     let place = c.args.place in
     let peer = c.args.peer in
@@ -36,8 +36,8 @@ returns-clause-kept c = λ settings state entries kept.
     ∙ ap (λ t. with_place place (row_turned c.is_some.result beat t) state.contacts) (c.time-time.ensures ∙ ap time_of c.registry.ensures ∙ of.time_is)
     ∙ ap (λ b. with_place place (row_turned b beat state.time) state.contacts) c.is_some.ensures
     ∙ turn_is settings state place peer there domain beat found by_so in
-    subst (λ rows. IsKept (record old { watch = record old.watch { sessions = c.turn_at-lost.new.self } }) settings (record state { contacts = rows }) entries) rows_are
-    (sessions_kept old c.turn_at-lost.new.self settings state entries here)
+    subst (λ rows. RestartsWith (record old { watch = record old.watch { sessions = c.turn_at-lost.new.self } }) settings (record state { contacts = rows }) entries) rows_are
+    (sessions_restarts old c.turn_at-lost.new.self settings state entries here)
 
 pub returns-clause-lost : goal.returns-clause-lost
 returns-clause-lost c = λ settings state represents.

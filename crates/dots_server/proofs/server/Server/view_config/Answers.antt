@@ -12,7 +12,7 @@ use Rattle.dots_machine.specs.Replies.{configuration_reply}
 use Rattle.dots_machine.specs.ConfiguredPeers.{configured_in}
 use Rattle.dots_server.specs.ServerValues.{ServerValue, Represents}
 use Rattle.dots_server.specs.HearingPeers.{is_wanted}
-use Rattle.dots_server.proofs.HearingPeers.{configured_here, view_shown, view_absent}
+use Rattle.dots_server.proofs.HearingPeers.{configured_here, view_wanted, view_absent}
 use Rattle.dots_server.proofs.server.Server.view_config.Goals as goal
 
 pub returns-then-is_wanted-clause-decides : goal.returns-then-is_wanted-clause-decides
@@ -25,7 +25,7 @@ returns-then-is_wanted-clause-decides c = λ settings state represents.
     (subst (λ tables. (entries : List Entry) → registry.Represents tables entries → option_map config_now c.config-held.result ≡ config_of c.args.peer (held entries)) c.registry.ensures c.config-held.ensures) in
     let configured = configured_in state.history c.args.domain c.args.peer in
     ap verdict.LongReply (c.in_ok-configuration_reply.ensures ∙ ap (configuration_reply c.args.exchange.now) found)
-    ∙ sym (view_shown c.args.exchange.now c.args.sid configured (ap (is_wanted c.args.sid) (sym found) ∙ sym c.is_wanted.ensures ∙ c.if-is_wanted.true))
+    ∙ sym (view_wanted c.args.exchange.now c.args.sid configured (ap (is_wanted c.args.sid) (sym found) ∙ sym c.is_wanted.ensures ∙ c.if-is_wanted.true))
 
 pub returns-clause-decides : goal.returns-clause-decides
 returns-clause-decides c = λ settings state represents.

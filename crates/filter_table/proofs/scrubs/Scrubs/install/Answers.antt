@@ -38,22 +38,22 @@ invariant_of-self c =
     let here = c.place_after-at.ensures.value ∙ ap (prefix_len (λ (t : Turn). nat_le t.place c.args.place)) c.as_slice.ensures.value in
     let now = c.put.ensures ∙ ap (λ (r : Rank). ranking_value c.self.inside.ranking.room (with_rank r c.self.inside.ranking.ranks)) c.of.ensures.value in
     let marked = c.put-2.ensures ∙ ap (λ (r : Rank). ranking_value c.self.inside.marks.room (with_rank r c.self.inside.marks.ranks)) c.mark_of.ensures in
-    let kept = installs_row c.self.inside.room c.self.inside.rows.items c.fill_slot.new.rows.items c.self.inside.turns.items c.put_turn.new.turns.items
+    let staying = installs_row c.self.inside.room c.self.inside.rows.items c.fill_slot.new.rows.items c.self.inside.turns.items c.put_turn.new.turns.items
     c.self.inside.free.items c.pop.new.self.items c.self.inside.ranking c.put.new.self c.self.inside.marks c.put-2.new.self c.args.place c.in-Some.slot c.place_after-at.result c.args.row
     c.self.invariant.0 c.in-Some.ensures.items c.of.ensures.valid here now marked c.fill_slot.ensures c.put_turn.ensures.items in
-    (kept.stand, omega arith, omega arith, c.self.invariant.3, c.self.invariant.4)
+    (staying.stand, omega arith, omega arith, c.self.invariant.3, c.self.invariant.4)
 
 pub returns : goal.returns
 returns c =
     let here = c.place_after-at.ensures.value ∙ ap (prefix_len (λ (t : Turn). nat_le t.place c.args.place)) c.as_slice.ensures.value in
     let now = c.put.ensures ∙ ap (λ (r : Rank). ranking_value c.self.inside.ranking.room (with_rank r c.self.inside.ranking.ranks)) c.of.ensures.value in
     let marked = c.put-2.ensures ∙ ap (λ (r : Rank). ranking_value c.self.inside.marks.room (with_rank r c.self.inside.marks.ranks)) c.mark_of.ensures in
-    let kept = installs_row c.self.inside.room c.self.inside.rows.items c.fill_slot.new.rows.items c.self.inside.turns.items c.put_turn.new.turns.items
+    let staying = installs_row c.self.inside.room c.self.inside.rows.items c.fill_slot.new.rows.items c.self.inside.turns.items c.put_turn.new.turns.items
     c.self.inside.free.items c.pop.new.self.items c.self.inside.ranking c.put.new.self c.self.inside.marks c.put-2.new.self c.args.place c.in-Some.slot c.place_after-at.result c.args.row
     c.self.invariant.0 c.in-Some.ensures.items c.of.ensures.valid here now marked c.fill_slot.ensures c.put_turn.ensures.items in (
       c.in-Some.slot,
-      subst (λ (v : ScrubsValue). c.in-Some.slot < v.room) c.self.view_is kept.slot_below,
-      subst (λ (v : ScrubsValue). scrub_in c.in-Some.slot v.placed ≡ None) c.self.view_is kept.slot_free,
-      ap (scrubs_value c.self.inside.room) kept.placed_is
+      subst (λ (v : ScrubsValue). c.in-Some.slot < v.room) c.self.view_is staying.slot_below,
+      subst (λ (v : ScrubsValue). scrub_in c.in-Some.slot v.placed ≡ None) c.self.view_is staying.slot_free,
+      ap (scrubs_value c.self.inside.room) staying.placed_is
           ∙ ap (λ (v : ScrubsValue). scrubs_value v.room (with_scrub (record { slot = c.in-Some.slot; place = c.args.place; row = c.args.row }) v.placed)) c.self.view_is,
     )

@@ -27,15 +27,15 @@ empty_run-requires-clause-room c =
 pub invariant_of-self : goal.invariant_of-self
 invariant_of-self c =
     let run = c.run_between-run.ensures ∙ ap (filter (λ (t : Turn). is_between c.args.low c.args.high t.place)) c.as_slice.ensures.value in
-    let kept = goes c.args.low c.args.high c.self.inside.room c.self.inside.rows.items c.empty_run.new.rows.items c.self.inside.turns.items c.cut_between.new.turns.items c.run_between-run.result.now
+    let staying = goes c.args.low c.args.high c.self.inside.room c.self.inside.rows.items c.empty_run.new.rows.items c.self.inside.turns.items c.cut_between.new.turns.items c.run_between-run.result.now
     c.self.inside.free.items c.empty_run.new.free.items c.self.inside.ranking c.keep_outside.new.self c.self.inside.marks c.keep_outside-2.new.self c.self.invariant.0 run
     c.empty_run.ensures.rows c.empty_run.ensures.free c.cut_between.ensures.items c.keep_outside.ensures c.keep_outside-2.ensures in
-    (kept.stand, omega arith, omega arith, c.self.invariant.3, c.self.invariant.4)
+    (staying.stand, omega arith, omega arith, c.self.invariant.3, c.self.invariant.4)
 
 pub returns : goal.returns
 returns c =
     let run = c.run_between-run.ensures ∙ ap (filter (λ (t : Turn). is_between c.args.low c.args.high t.place)) c.as_slice.ensures.value in
-    let kept = goes c.args.low c.args.high c.self.inside.room c.self.inside.rows.items c.empty_run.new.rows.items c.self.inside.turns.items c.cut_between.new.turns.items c.run_between-run.result.now
+    let staying = goes c.args.low c.args.high c.self.inside.room c.self.inside.rows.items c.empty_run.new.rows.items c.self.inside.turns.items c.cut_between.new.turns.items c.run_between-run.result.now
     c.self.inside.free.items c.empty_run.new.free.items c.self.inside.ranking c.keep_outside.new.self c.self.inside.marks c.keep_outside-2.new.self c.self.invariant.0 run
     c.empty_run.ensures.rows c.empty_run.ensures.free c.cut_between.ensures.items c.keep_outside.ensures c.keep_outside-2.ensures in
-    ap (scrubs_value c.self.inside.room) kept.placed_is ∙ ap (λ (v : ScrubsValue). scrubs_value v.room (filter (stays_outside c.args.low c.args.high) v.placed)) c.self.view_is
+    ap (scrubs_value c.self.inside.room) staying.placed_is ∙ ap (λ (v : ScrubsValue). scrubs_value v.room (filter (stays_outside c.args.low c.args.high) v.placed)) c.self.view_is

@@ -36,9 +36,9 @@ invariant_of-self c =
     let marked = c.rank_all.ensures.marks
     ∙ ap (λ (rs : List (Option ScrubRow)). ranking_value c.self.inside.marks.room (ranked (map mark_of (gathered rs c.as_slice.result.now)))) c.as_slice-2.ensures.value
     ∙ ap (λ (ts : List Turn). ranking_value c.self.inside.marks.room (ranked (map mark_of (gathered c.self.inside.rows.items ts)))) c.as_slice.ensures.value in
-    let kept = renumbers_rows c.self.inside.room c.self.inside.rows.items c.self.inside.turns.items c.renumber_turns.new.turns.items c.self.inside.free.items c.self.inside.ranking c.rank_all.new.ranking c.self.inside.marks c.rank_all.new.marks
+    let staying = renumbers_rows c.self.inside.room c.self.inside.rows.items c.self.inside.turns.items c.renumber_turns.new.turns.items c.self.inside.free.items c.self.inside.ranking c.rank_all.new.ranking c.self.inside.marks c.rank_all.new.marks
     c.self.invariant.0 c.renumber_turns.ensures.items now marked in
-    (kept.stand, omega arith, omega arith, c.self.invariant.3, c.self.invariant.4)
+    (staying.stand, omega arith, omega arith, c.self.invariant.3, c.self.invariant.4)
 
 pub returns : goal.returns
 returns c =
@@ -48,7 +48,7 @@ returns c =
     let marked = c.rank_all.ensures.marks
     ∙ ap (λ (rs : List (Option ScrubRow)). ranking_value c.self.inside.marks.room (ranked (map mark_of (gathered rs c.as_slice.result.now)))) c.as_slice-2.ensures.value
     ∙ ap (λ (ts : List Turn). ranking_value c.self.inside.marks.room (ranked (map mark_of (gathered c.self.inside.rows.items ts)))) c.as_slice.ensures.value in
-    let kept = renumbers_rows c.self.inside.room c.self.inside.rows.items c.self.inside.turns.items c.renumber_turns.new.turns.items c.self.inside.free.items c.self.inside.ranking c.rank_all.new.ranking c.self.inside.marks c.rank_all.new.marks
+    let staying = renumbers_rows c.self.inside.room c.self.inside.rows.items c.self.inside.turns.items c.renumber_turns.new.turns.items c.self.inside.free.items c.self.inside.ranking c.rank_all.new.ranking c.self.inside.marks c.rank_all.new.marks
     c.self.invariant.0 c.renumber_turns.ensures.items now marked in
-    ap (scrubs_value c.self.inside.room) kept.placed_is
+    ap (scrubs_value c.self.inside.room) staying.placed_is
     ∙ ap (λ (v : ScrubsValue). scrubs_value v.room (renumbered place_of_scrub scrub_at_place v.placed)) c.self.view_is

@@ -46,10 +46,10 @@ invariant_of-self c =
     let within : c.args.at < length c.self.inside.turns.items = omega (arith, fits, length-gathered c.self.inside.rows.items c.self.inside.turns.items c.self.invariant.0.tied) in
     let now = c.take.ensures ∙ ap (λ (r : Rank). ranking_value c.self.inside.ranking.room (remove c.self.inside.ranking.ranks (place_of r c.self.inside.ranking.ranks))) c.of.ensures.value in
     let marked = c.take-2.ensures ∙ ap (λ (r : Rank). ranking_value c.self.inside.marks.room (remove c.self.inside.marks.ranks (place_of r c.self.inside.marks.ranks))) c.mark_of.ensures in
-    let kept = removes_row c.self.inside.room c.self.inside.rows.items c.empty_slot.new.rows.items c.self.inside.turns.items c.remove-turn.new.self.items c.self.inside.free.items
+    let staying = removes_row c.self.inside.room c.self.inside.rows.items c.empty_slot.new.rows.items c.self.inside.turns.items c.remove-turn.new.self.items c.self.inside.free.items
     c.push_reserved.new.self.items c.self.inside.ranking c.take.new.self c.self.inside.marks c.take-2.new.self c.args.at c.remove-turn.result c.in-Some.row c.self.invariant.0 within c.remove-turn.ensures.value
     (sym c.in-Some.ensures.row) c.push_reserved.ensures.items now marked c.empty_slot.ensures.items c.remove-turn.ensures.items in
-    (kept.stand, omega arith, omega arith, c.self.invariant.3, c.self.invariant.4)
+    (staying.stand, omega arith, omega arith, c.self.invariant.3, c.self.invariant.4)
 
 pub returns : goal.returns
 returns c =
@@ -57,7 +57,7 @@ returns c =
     let within : c.args.at < length c.self.inside.turns.items = omega (arith, fits, length-gathered c.self.inside.rows.items c.self.inside.turns.items c.self.invariant.0.tied) in
     let now = c.take.ensures ∙ ap (λ (r : Rank). ranking_value c.self.inside.ranking.room (remove c.self.inside.ranking.ranks (place_of r c.self.inside.ranking.ranks))) c.of.ensures.value in
     let marked = c.take-2.ensures ∙ ap (λ (r : Rank). ranking_value c.self.inside.marks.room (remove c.self.inside.marks.ranks (place_of r c.self.inside.marks.ranks))) c.mark_of.ensures in
-    let kept = removes_row c.self.inside.room c.self.inside.rows.items c.empty_slot.new.rows.items c.self.inside.turns.items c.remove-turn.new.self.items c.self.inside.free.items
+    let staying = removes_row c.self.inside.room c.self.inside.rows.items c.empty_slot.new.rows.items c.self.inside.turns.items c.remove-turn.new.self.items c.self.inside.free.items
     c.push_reserved.new.self.items c.self.inside.ranking c.take.new.self c.self.inside.marks c.take-2.new.self c.args.at c.remove-turn.result c.in-Some.row c.self.invariant.0 within c.remove-turn.ensures.value
     (sym c.in-Some.ensures.row) c.push_reserved.ensures.items now marked c.empty_slot.ensures.items c.remove-turn.ensures.items in
-    ap (scrubs_value c.self.inside.room) kept.placed_is ∙ ap (λ (v : ScrubsValue). scrubs_value v.room (remove v.placed c.args.at)) c.self.view_is
+    ap (scrubs_value c.self.inside.room) staying.placed_is ∙ ap (λ (v : ScrubsValue). scrubs_value v.room (remove v.placed c.args.at)) c.self.view_is
