@@ -31,4 +31,4 @@ mod writing;
 pub use exchange::{EXCHANGE_LIFETIME, Exchange, LAST_NUMBER, Waiting};
 pub use gateway::{GatewayCore, MAX_WAITING};
 pub use passed::{GatewayFault, HOP_LIMIT_REACHED, Passed};
-pub use routes::Route;
+pub use routes::{Route, domain_for, routes_of};

@@ -24,4 +24,5 @@ pub mod Sent
 pub mod Sound
 pub mod Storing
 pub mod Surviving
+pub mod Enough
 pub mod Turning

@@ -24,9 +24,11 @@ use Rattle.dots_gateway.specs.Gateway.{GatewayValue, Said, gateway_at, UpOrLacks
 use Rattle.gateway_agent.specs.Crashes.{AreAlike, HasYoung}
 use Rattle.gateway_agent.specs.Exchanges.{last_time, most_young}
 use Rattle.gateway_agent.specs.Stores.{StoreValue, IsOn}
-use Rattle.gateway_agent.specs.Passing.{GatewayState, GoesUp, GoesDown, Passes, FaultSends, fresh_in, sends_of, state_at}
+use Rattle.gateway_agent.specs.Passing.{GatewayState, GoesUp, FaultSends, fresh_in, sends_of, state_at}
+use Rattle.gateway_agent.specs.PassingWell.{GoesUpWell, GoesUpAs, GoesDownAs, PassesWell, PassesAs, is_enough, is_table_full}
+use Rattle.gateway_agent.proofs.Enough.{down_as, refused_as}
 use Rattle.gateway_agent.specs.Keeping.{AgentValue, AreJoined, CanKeepAll, Counts, HasMore, IsIn, IsMore, agent}
-use Rattle.gateway_agent.specs.Turning.{HasAlike, HasTurn, Turned, TookBy, BrokeBy, Took, BrokeOff, IsTaken, most_of, time_in}
+use Rattle.gateway_agent.specs.Turning.{HasAlike, HasTurn, Turned, TookBy, BrokeBy, BrokeOff, IsTaken, most_of, time_in}
 use Rattle.gateway_agent.proofs.Fresh.{fresh_of, fresh_token, fresh_time}
 use Rattle.gateway_agent.proofs.Joining.{alike_then, alike_more, counts_at, counts_more, fresh_can, joined_at, joined_more}
 
@@ -102,7 +104,7 @@ none_new kept = ([], sym (append-nil kept))
 
 -- ---- an event that only moves the time
 
-only_ages : (old : GatewayState) (w : What) (room : List ℕ) (at : ℕ) → IsTaken w → ((from len : ℕ) → w ≡ what.Datagram from len → ⊥) → Passes old (event_of w room) at [] (state_at old at)
+only_ages : (old : GatewayState) (w : What) (room : List ℕ) (at : ℕ) → IsTaken w → ((from len : ℕ) → w ≡ what.Datagram from len → ⊥) → PassesWell old (event_of w room) at [] (state_at old at)
 only_ages old (what.Datagram from len) room at taken none = absurd (none from len refl)
 only_ages old (what.Opened conn from) room at taken none = (refl, refl)
 only_ages old (what.Piece conn len) room at taken none = (refl, refl)
@@ -114,7 +116,7 @@ only_ages old what.Failed room at taken none = absurd taken
 
 pub took_time : (settings : SettingsValue) (state : GatewayState) (core : GatewayValue) (store : StoreValue) (w : What) (room : List ℕ) (at : ℕ) (media : Option Media) (moment : ℕ) (acts : Option (List Timed))
     → IsIn (agent core store) state → at < 2 ^ 48 → IsTaken w → ((from len : ℕ) → w ≡ what.Datagram from len → ⊥) → IsMoment moment media
-    → Took settings state (event_of w room) at (agent core store) (agent (gateway_at at core) store) media media acts acts
+    → TookBy (λ outs new. PassesAs true state (event_of w room) at outs new) settings state (agent core store) (agent (gateway_at at core) store) media media acts acts
 took_time settings state core store w room at media moment acts is early taken none here = record {
   outs = [];
   new = state_at state at;
@@ -129,16 +131,16 @@ took_time settings state core store w room at media moment acts is early taken n
 
 pub took_down : (settings : SettingsValue) (state : GatewayState) (core : GatewayValue) (store : StoreValue) (datagram : List ℕ) (at : ℕ) (said : Passed) (media media_new : Option Media) (moment : ℕ) (acts acts_new : Option (List Timed))
     → IsIn (agent core store) state → at < 2 ^ 48 → DownOrLacks (gateway_at at core) datagram said → IsMoment moment media → Added acts acts_new (Gives moment (sends_of core.upstream said)) → KeepsMedia media media_new
-    → TookBy (λ outs new. GoesDown (state_at state at) datagram outs new) settings state (agent core store) (agent (gateway_at at core) store) media media_new acts acts_new
+    → TookBy (λ outs new. GoesDownAs (is_enough said) (state_at state at) datagram outs new) settings state (agent core store) (agent (gateway_at at core) store) media media_new acts acts_new
 took_down settings state core store datagram at said media media_new moment acts acts_new is early downs here gives keeps = record {
   outs = sends_of core.upstream said;
   new = state_at state at;
-  made = record {
+  made = down_as said (state_at state at) datagram (sends_of core.upstream said) (state_at state at) (record {
     said = said;
     downs = subst (λ (g : GatewayValue). DownOrLacks (gateway_at at g) datagram said) is.core downs;
     sends = ap (λ (g : GatewayValue). sends_of g.upstream said) is.core;
     same = refl;
-  };
+  }) refl;
   grows = none_new state.kept;
   timely = at_timely core store state at is;
   is_in = in_at core store state at is early;
@@ -160,18 +162,18 @@ pub took_refused : (settings : SettingsValue) (state : GatewayState) (core new :
     (media media_new : Option Media) (moment : ℕ) (acts acts_new : Option (List Timed))
     → IsIn (agent core store) state → at < 2 ^ 48 → UpOrLacks (gateway_at at core) peer datagram (Err why) new → FaultSends peer datagram why outs
     → IsMoment moment media → Added acts acts_new (Gives moment outs) → KeepsMedia media media_new
-    → TookBy (λ outs new. GoesUp (state_at state at) peer datagram outs new) settings state (agent core store) (agent new store) media media_new acts acts_new
+    → TookBy (λ outs new. GoesUpAs (is_table_full why) (state_at state at) peer datagram outs new) settings state (agent core store) (agent new store) media media_new acts acts_new
 took_refused settings state core new store peer datagram at why outs media media_new moment acts acts_new is early ups sends here gives keeps =
     let now : GatewayState = record { core = new; kept = state.kept } in
     record {
       outs = outs;
       new = now;
-      made = record {
+      made = refused_as why (state_at state at) peer datagram outs now (record {
         said = Err why;
         ups = subst (λ (g : GatewayValue). UpOrLacks (gateway_at at g) peer datagram (Err why) new) is.core ups;
         sends = sends;
         kept = sym (append-nil state.kept);
-      };
+      }) refl;
       grows = none_new state.kept;
       timely =
           let late = in_time core store state is in
@@ -324,11 +326,12 @@ module _ (settings : SettingsValue) (state : GatewayState) (core new : GatewayVa
       → (RestsWith media (IsOn settings old) → Leaves media between (HasMore settings (most_young old.journal.slots) old.exchanges (fresh_in (Ok said))))
       → (RestsWith media (IsOn settings old) → RestsWith between (IsOn settings store))
       → KeepsActs acts told → IsMoment moment between → Added told acts_new (Gives moment (sends_of core.upstream said)) → KeepsMedia between media_new
-      → TookBy Goes settings state (agent core old) (agent new store) media media_new acts acts_new
+      → TookBy (λ outs now. GoesUpWell (state_at state at) peer datagram outs now) settings state (agent core old) (agent new store) media media_new acts acts_new
+  unfolding made
   took_up media between media_new moment acts told acts_new slots more leaves rests silent here gives keeps = record {
     outs = sends_of core.upstream said;
     new = left;
-    made = made;
+    made = (made, λ lacks. cc lacks);
     grows = (fresh_in (Ok said), refl);
     timely = left_timely;
     is_in = record {
@@ -371,24 +374,32 @@ at_false true P Q is q = absurd (false≢true (sym is))
 at_false false P Q is q = q
 
 module _ (settings : SettingsValue) (state : GatewayState) (from : ℕ) (bytes : List ℕ) (at : ℕ) (old : AgentValue) (media media_now : Option Media) (acts acts_now : Option (List Timed)) where
-  pub as_down : (now : AgentValue) → from ≡ state.core.upstream → TookBy (λ outs new. GoesDown (state_at state at) bytes outs new) settings state old now media media_now acts acts_now
-      → Took settings state (event.Datagram from bytes) at old now media media_now acts acts_now
-  as_down now is took = record {
+  down_made : (enough : Bool) (outs : List OwnedOut) (new : GatewayState) → from ≡ state.core.upstream → GoesDownAs enough (state_at state at) bytes outs new → PassesAs enough state (event.Datagram from bytes) at outs new
+  down_made true outs new is goes = at_true (from == state.core.upstream) _ _ (eq-eqb from state.core.upstream is) goes
+  down_made false outs new is goes = at_true (from == state.core.upstream) _ _ (eq-eqb from state.core.upstream is) goes
+
+  up_made : (enough : Bool) (outs : List OwnedOut) (new : GatewayState) → (from ≡ state.core.upstream → ⊥) → GoesUpAs enough (state_at state at) from bytes outs new → PassesAs enough state (event.Datagram from bytes) at outs new
+  up_made true outs new other goes = at_false (from == state.core.upstream) _ _ (ne_eqb from state.core.upstream other) goes
+  up_made false outs new other goes = at_false (from == state.core.upstream) _ _ (ne_eqb from state.core.upstream other) goes
+
+  pub as_down : (enough : Bool) (now : AgentValue) → from ≡ state.core.upstream → TookBy (λ outs new. GoesDownAs enough (state_at state at) bytes outs new) settings state old now media media_now acts acts_now
+      → TookBy (λ outs new. PassesAs enough state (event.Datagram from bytes) at outs new) settings state old now media media_now acts acts_now
+  as_down enough now is took = record {
     outs = took.outs;
     new = took.new;
-    made = at_true (from == state.core.upstream) _ _ (eq-eqb from state.core.upstream is) took.made;
+    made = down_made enough took.outs took.new is took.made;
     grows = took.grows;
     timely = took.timely;
     is_in = took.is_in;
     turned = took.turned;
   }
 
-  pub as_up : (now : AgentValue) → (from ≡ state.core.upstream → ⊥) → TookBy (λ outs new. GoesUp (state_at state at) from bytes outs new) settings state old now media media_now acts acts_now
-      → Took settings state (event.Datagram from bytes) at old now media media_now acts acts_now
-  as_up now other took = record {
+  pub as_up : (enough : Bool) (now : AgentValue) → (from ≡ state.core.upstream → ⊥) → TookBy (λ outs new. GoesUpAs enough (state_at state at) from bytes outs new) settings state old now media media_now acts acts_now
+      → TookBy (λ outs new. PassesAs enough state (event.Datagram from bytes) at outs new) settings state old now media media_now acts acts_now
+  as_up enough now other took = record {
     outs = took.outs;
     new = took.new;
-    made = at_false (from == state.core.upstream) _ _ (ne_eqb from state.core.upstream other) took.made;
+    made = up_made enough took.outs took.new other took.made;
     grows = took.grows;
     timely = took.timely;
     is_in = took.is_in;

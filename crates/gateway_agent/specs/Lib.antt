@@ -4,6 +4,7 @@ pub mod Stores
 pub mod Crashes
 pub mod Refusing
 pub mod Passing
+pub mod PassingWell
 pub mod Keeping
 pub mod Turning
 pub mod Surviving

@@ -38,4 +38,4 @@ pub use running::{run_gateway, take_events};
 pub use slot_journal::{DiskFault, JournalFault};
 pub use stopping::{GatewayEnding, GatewayHalt};
 pub use store::Store;
-pub use turns::take;
+pub use turns::{take, take_telling};

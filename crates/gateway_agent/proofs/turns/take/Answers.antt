@@ -1,60 +1,35 @@
-use Rattle.std.proofs.Common.{refl, sym, ap, subst, arith}
-use Rattle.dots_host.specs.declared.event.What.{What}
 use Rattle.dots_host.specs.Acts.{event_of}
-use Rattle.dots_gateway.specs.Gateway.{GatewayValue}
-use Rattle.dots_host.proofs.RunLemmas.{added_none}
-use Rattle.slot_journal.proofs.Crashing.{on_ok_as}
-use Rattle.gateway_agent.proofs.KeepingLemmas.{on_err_as}
-use Rattle.gateway_agent.specs.Keeping.{AreJoined, agent}
-use Rattle.gateway_agent.specs.Turning.{Took, BrokeOff}
-use Rattle.gateway_agent.proofs.Joining.{joined_at}
-use Rattle.gateway_agent.proofs.Turning.{took_time}
+use Rattle.gateway_agent.specs.Keeping.{agent}
+use Rattle.gateway_agent.proofs.Enough.{as_took}
 use Rattle.gateway_agent.proofs.turns.take.Goals as goal
 
--- a datagram is taken with its bytes
-pub returns-in-Datagram : goal.returns-in-Datagram
-returns-in-Datagram g c =
+pub returns-in-Ok : goal.returns-in-Ok
+returns-in-Ok g c =
     let host = c.args.host.now in
-    let left = c.take_datagram.new.host in
-    let old = agent c.args.core.now c.args.store.now in
-    record {
-      done = on_ok_as c.take_datagram.result (λ took settings state is.
-          subst (λ (w : What). Took settings state (event_of w c.args.room.now) c.args.got.now.at old (agent c.take_datagram.new.core c.take_datagram.new.store)
-          (g.H.Disk.media host) (g.H.Disk.media left) (g.H.Wire.acts host) (g.H.Wire.acts left)) (sym c.in-Datagram.is) (took settings state is))
-          c.take_datagram.ensures.done;
-      failed = on_err_as c.take_datagram.result (λ broke settings state is.
-          subst (λ (w : What). BrokeOff settings state (event_of w c.args.room.now) c.args.got.now.at old
-          (g.H.Disk.media host) (g.H.Disk.media left) (g.H.Wire.acts host) (g.H.Wire.acts left)) (sym c.in-Datagram.is) (broke settings state is))
-          c.take_datagram.ensures.failed;
-      joined = c.take_datagram.ensures.joined;
-      same = c.take_datagram.ensures.same;
-      adds = c.take_datagram.ensures.adds;
-      cause = c.take_datagram.ensures.cause;
-      extent = c.take_datagram.ensures.extent;
-      wire = c.take_datagram.ensures.wire;
-      leads = c.take_datagram.ensures.leads;
-    }
-
-pub returns-in_default : goal.returns-in_default
-returns-in_default g c =
-    let host = c.args.host.now in
-    let core = c.args.core.now in
-    let store = c.args.store.now in
-    let same = c.pass_time.ensures in
+    let left = c.take_telling.new.host in
     record {
       done = λ settings state is.
-          subst
-          (λ (now : GatewayValue). Took settings state (event_of c.args.got.now.what c.args.room.now) c.args.got.now.at (agent core store) (agent now store)
-          (g.H.Disk.media host) (g.H.Disk.media host) (g.H.Wire.acts host) (g.H.Wire.acts host))
-          (sym same)
-          (took_time settings state core store c.args.got.now.what c.args.room.now c.args.got.now.at (g.H.Disk.media host) (g.H.Wire.moment host) (g.H.Wire.acts host) is c.requires.early c.requires.taken
-          c.in_default.not-Datagram (g.met.H.Host.one_moment host));
+          as_took settings state (event_of c.args.got.now.what c.args.room.now) c.args.got.now.at (agent c.args.core.now c.args.store.now) (agent c.take_telling.new.core c.take_telling.new.store)
+          (g.H.Disk.media host) (g.H.Disk.media left) (g.H.Wire.acts host) (g.H.Wire.acts left) _ (c.in-Ok.ensures.done settings state is);
       failed = tt;
-      joined = subst (λ (now : GatewayValue). AreJoined now store) (sym same) (joined_at core store c.args.got.now.at c.requires.joined c.requires.early);
-      same = record { routes = ap (λ (now : GatewayValue). now.routes) same; upstream = ap (λ (now : GatewayValue). now.upstream) same; slots = refl };
-      adds = added_none _ (λ _. Unit {0}) tt;
-      cause = record { later = omega arith; same = refl; rose = tt };
-      extent = refl;
-      wire = refl;
-      leads = g.met.H.Wire.leads_same _;
+      joined = c.in-Ok.ensures.joined;
+      same = c.take_telling.ensures.same;
+      adds = c.take_telling.ensures.adds;
+      cause = record { later = c.in-Ok.ensures.cause.later; same = c.in-Ok.ensures.cause.same; rose = tt };
+      extent = c.take_telling.ensures.extent;
+      wire = c.take_telling.ensures.wire;
+      leads = c.take_telling.ensures.leads;
     }
+
+pub returns-in-Err : goal.returns-in-Err
+returns-in-Err g c = record {
+  done = tt;
+  failed = c.in-Err.ensures.failed;
+  joined = tt;
+  same = c.take_telling.ensures.same;
+  adds = c.take_telling.ensures.adds;
+  cause = record { later = c.in-Err.ensures.cause.later; same = tt; rose = c.in-Err.ensures.cause.rose };
+  extent = c.take_telling.ensures.extent;
+  wire = c.take_telling.ensures.wire;
+  leads = c.take_telling.ensures.leads;
+}

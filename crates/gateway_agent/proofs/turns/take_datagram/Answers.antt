@@ -1,6 +1,6 @@
 use Rattle.std.proofs.Common.{sym, ap, ◌∙◌, arith}
 use Rattle.dots_gateway.specs.Gateway.{GatewayValue}
-use Rattle.slot_journal.proofs.Crashing.{on_ok_as}
+use Rattle.gateway_agent.proofs.Enough.{if_ok_as}
 use Rattle.gateway_agent.proofs.KeepingLemmas.{on_err_as}
 use Rattle.gateway_agent.specs.Keeping.{agent}
 use Rattle.gateway_agent.proofs.Turning.{as_down, as_up, as_broke}
@@ -14,7 +14,7 @@ returns-then-from-upstream g c =
     let disk = c.take_down.ensures.disk in
     record {
       done = λ settings state is.
-          as_down settings state c.args.from c.args.bytes.now c.args.at old (g.H.Disk.media host) (g.H.Disk.media left) (g.H.Wire.acts host) (g.H.Wire.acts left)
+          as_down settings state c.args.from c.args.bytes.now c.args.at old (g.H.Disk.media host) (g.H.Disk.media left) (g.H.Wire.acts host) (g.H.Wire.acts left) c.take_down.result
           (agent c.take_down.new.core c.args.store.now)
           (c.if-from-upstream.true ∙ c.requires.upstream ∙ ap (λ (now : GatewayValue). now.upstream) is.core)
           (c.take_down.ensures.done settings state is);
@@ -34,8 +34,8 @@ returns g c =
     let left = c.take_up.new.host in
     let old = agent c.args.core.now c.args.store.now in
     record {
-      done = on_ok_as c.take_up.result (λ took settings state is.
-          as_up settings state c.args.from c.args.bytes.now c.args.at old (g.H.Disk.media host) (g.H.Disk.media left) (g.H.Wire.acts host) (g.H.Wire.acts left)
+      done = if_ok_as c.take_up.result (λ enough took settings state is.
+          as_up settings state c.args.from c.args.bytes.now c.args.at old (g.H.Disk.media host) (g.H.Disk.media left) (g.H.Wire.acts host) (g.H.Wire.acts left) enough
           (agent c.take_up.new.core c.take_up.new.store)
           (λ same. c.if-from-upstream.false (same ∙ sym (c.requires.upstream ∙ ap (λ (now : GatewayValue). now.upstream) is.core)))
           (took settings state is))

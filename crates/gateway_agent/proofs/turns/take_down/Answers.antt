@@ -1,7 +1,8 @@
 use Rattle.std.proofs.Common.{ℕ, refl, sym, ap, subst}
 use Rattle.dots_host.specs.Runs.{Added, Gives}
 use Rattle.dots_gateway.specs.Gateway.{GatewayValue}
-use Rattle.gateway_agent.specs.Passing.{GoesDown, sends_of, state_at}
+use Rattle.gateway_agent.specs.Passing.{sends_of, state_at}
+use Rattle.gateway_agent.specs.PassingWell.{GoesDownAs, is_enough}
 use Rattle.gateway_agent.specs.Keeping.{AreJoined, agent}
 use Rattle.gateway_agent.specs.Turning.{TookBy}
 use Rattle.gateway_agent.proofs.Joining.{joined_at}
@@ -19,12 +20,15 @@ returns g c =
     let gives = subst (λ (u : ℕ). Added (g.H.Wire.acts host) (g.H.Wire.acts left) (Gives (g.H.Wire.moment host) (sends_of u said))) c.requires.upstream c.give.ensures.gives in
     record {
       done = λ settings state is.
-          subst
-          (λ (now : GatewayValue). TookBy (λ outs new. GoesDown (state_at state c.args.at) c.args.bytes.now outs new) settings state (agent core store) (agent now store)
+          subst (λ enough. TookBy (λ outs new. GoesDownAs enough (state_at state c.args.at) c.args.bytes.now outs new) settings state (agent core store) (agent c.down-said.new.self store)
+          (g.H.Disk.media host) (g.H.Disk.media left) (g.H.Wire.acts host) (g.H.Wire.acts left))
+          (sym c.is_enough.ensures)
+          (subst
+          (λ (now : GatewayValue). TookBy (λ outs new. GoesDownAs (is_enough said) (state_at state c.args.at) c.args.bytes.now outs new) settings state (agent core store) (agent now store)
           (g.H.Disk.media host) (g.H.Disk.media left) (g.H.Wire.acts host) (g.H.Wire.acts left))
           (sym c.down-said.ensures.after)
           (took_down settings state core store c.args.bytes.now c.args.at said (g.H.Disk.media host) (g.H.Disk.media left) (g.H.Wire.moment host) (g.H.Wire.acts host) (g.H.Wire.acts left)
-          is c.requires.early c.down-said.ensures.said (g.met.H.Host.one_moment host) gives keeps.0);
+          is c.requires.early c.down-said.ensures.said (g.met.H.Host.one_moment host) gives keeps.0));
       joined = subst (λ (now : GatewayValue). AreJoined now store) (sym c.down-said.ensures.after) (joined_at core store c.args.at c.requires.joined c.requires.early);
       same = record {
         routes = ap (λ (now : GatewayValue). now.routes) c.down-said.ensures.after;

@@ -1,8 +1,11 @@
-use Rattle.std.proofs.Common.{ℕ, refl, subst, ◌∙◌, arith}
+use Rattle.std.proofs.Common.{ℕ, refl, sym, subst, ◌∙◌, arith}
 use Rattle.std.specs.Prelude.{Ok, Err}
 use Rattle.dots_host.specs.Runs.{Added, Gives}
 use Rattle.dots_gateway.specs.Gateway.{gateway_at}
-use Rattle.gateway_agent.specs.Passing.{sends_of}
+use Rattle.gateway_agent.specs.Passing.{sends_of, state_at}
+use Rattle.gateway_agent.specs.PassingWell.{GoesUpAs}
+use Rattle.gateway_agent.specs.Keeping.{agent}
+use Rattle.gateway_agent.specs.Turning.{TookBy}
 use Rattle.gateway_agent.proofs.Joining.{joined_at}
 use Rattle.gateway_agent.proofs.Turning.{added_behind, some_adds, silent_adds, err_joined, up_can, up_fixed, up_joined, took_up, took_refused, broke_up}
 use Rattle.gateway_agent.proofs.turns.take_up.Goals as goal
@@ -91,8 +94,11 @@ returns-in-Err g c =
     let fixed = up_fixed (gateway_at c.args.at core) c.args.from c.args.bytes.now (Err why) new ups in
     record {
       done = λ settings state is.
-          took_refused settings state core new store c.args.from c.args.bytes.now c.args.at why outs (g.H.Disk.media host) (g.H.Disk.media left) (g.H.Wire.moment host) (g.H.Wire.acts host) (g.H.Wire.acts left)
-          is c.requires.early ups sends (g.met.H.Host.one_moment host) gives keeps.0;
+          subst (λ enough. TookBy (λ outs new. GoesUpAs enough (state_at state c.args.at) c.args.from c.args.bytes.now outs new) settings state (agent core store) (agent new store)
+          (g.H.Disk.media host) (g.H.Disk.media left) (g.H.Wire.acts host) (g.H.Wire.acts left))
+          (sym c.is_table_full.ensures)
+          (took_refused settings state core new store c.args.from c.args.bytes.now c.args.at why outs (g.H.Disk.media host) (g.H.Disk.media left) (g.H.Wire.moment host) (g.H.Wire.acts host) (g.H.Wire.acts left)
+          is c.requires.early ups sends (g.met.H.Host.one_moment host) gives keeps.0);
       failed = tt;
       joined = err_joined core new store c.args.from c.args.bytes.now c.args.at why c.requires.joined c.requires.early ups;
       same = record { routes = fixed.0; upstream = fixed.1; slots = refl };
