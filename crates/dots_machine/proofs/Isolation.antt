@@ -315,12 +315,12 @@ module _ (settings : SettingsValue) (domain : ℕ) (now : State) (handling : Han
               in_domain_left (config_domain who) (delete_config_for (facts_in settings now) peer x sid) (delete_configs_accept settings (facts_in settings now) peer x sid) never
           left (request.PutHeartbeat heard) never = refl
 
-      time_kept : (v : Verdict) → (after v now).time ≡ now.time
-      time_kept verdict.Silent = refl
-      time_kept (verdict.Reply reply) = refl
-      time_kept (verdict.LongReply reply) = refl
-      time_kept (verdict.Retrieves y body) = refl
-      time_kept (verdict.Accept reply entry) = refl
+      time_same : (v : Verdict) → (after v now).time ≡ now.time
+      time_same verdict.Silent = refl
+      time_same (verdict.Reply reply) = refl
+      time_same (verdict.LongReply reply) = refl
+      time_same (verdict.Retrieves y body) = refl
+      time_same (verdict.Accept reply entry) = refl
 
       -- for the domain
       taken_up : (x : Exchange) (r : Request) → IsReceived datagram (is_gateway who) (received.Asked x r) → IsAsked r → decided ≡ answer_to settings (facts_in settings now) peer x r → Taken
@@ -344,7 +344,7 @@ module _ (settings : SettingsValue) (domain : ℕ) (now : State) (handling : Han
       )
         where
           same : SameFor domain now own
-          same = record { time = sym (time_is ∙ time_kept decided); entries = alone_twice domain now.history }
+          same = record { time = sym (time_is ∙ time_same decided); entries = alone_twice domain now.history }
 
           alike : answer_to settings (facts_in settings now) peer x r ≡ answer_to settings (facts_in settings own) peer x r
           alike = by_apart (asked_apart settings domain now own same peer x r)

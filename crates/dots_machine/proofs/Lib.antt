@@ -6,6 +6,7 @@ pub mod FrontsOnce
 pub mod FrontsApart
 pub mod FrontsAlike
 pub mod Quiet
+pub mod Unobserved
 pub mod Apart
 pub mod MessageRepeats
 pub mod OneAnswer
@@ -14,6 +15,7 @@ pub mod OneState
 pub mod RepeatAnswers
 pub mod Outcomes
 pub mod Verdicts
+pub mod OneView
 pub mod Hearing
 pub mod Returning
 pub mod Parting
@@ -22,8 +24,10 @@ pub mod Adding
 pub mod Isolation
 pub mod Meeting
 pub mod Orderly
+pub mod Granting
 pub mod Ordering
 pub mod Laws
 pub mod Surviving
 pub mod Going
+pub mod SharingNone
 pub mod RememberedMessages

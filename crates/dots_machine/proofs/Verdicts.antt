@@ -127,22 +127,22 @@ module _ (settings : SettingsValue) (t : ℕ) (history : List Entry) where
 
   -- ---- and any others are the same
   module _ (facts : Facts) (are : AreFacts settings t history facts) where
-    repeated_is : (sent : Sent) → facts.repeated sent ≡ read.repeated sent
+    pub repeated_is : (sent : Sent) → facts.repeated sent ≡ read.repeated sent
     repeated_is sent = by_found (facts.repeated sent) (are.repeated sent)
       where
         by_found : (o : Option Entry) → Repeats settings.limits.remembered t history sent o → o ≡ read.repeated sent
         by_found (Some entry) is = sym (is_remembered settings.limits.remembered t sent history entry is)
         by_found None never = sym (none_remembered settings.limits.remembered t sent history never)
 
-    judged_is : (domain : ℕ) (wish : Wish) → facts.judged domain wish ≡ read.judged domain wish
+    pub judged_is : (domain : ℕ) (wish : Wish) → facts.judged domain wish ≡ read.judged domain wish
     judged_is domain wish = sym (places_judge settings t history domain wish (facts.judged domain wish) (are.judged domain wish))
 
-    taken_is : (client : Client) (peer : ℕ) → facts.taken client peer ≡ read.taken client peer
+    pub taken_is : (client : Client) (peer : ℕ) → facts.taken client peer ≡ read.taken client peer
     taken_is client peer =
         tested (facts.taken client peer) (read.taken client peer) (IsTaken t history client peer) (are.taken client peer)
         (collides_taken t history client peer) (taken_collides t history client peer)
 
-    stands_is : (client : Client) (mid : ℕ) → facts.stands client mid ≡ read.stands client mid
+    pub stands_is : (client : Client) (mid : ℕ) → facts.stands client mid ≡ read.stands client mid
     stands_is client mid =
         tested (facts.stands client mid) (read.stands client mid) ((put : Put) × HasMid t history client mid put) (are.stands client mid)
         (stands_so client mid) (stands_true client mid)

@@ -13,6 +13,7 @@ pub mod Machine
 pub mod Parts
 pub mod RepeatRule
 pub mod Apart
+pub mod OneView
 pub mod Answering
 pub mod Handlings
 pub mod Adding

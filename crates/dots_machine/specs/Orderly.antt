@@ -1,5 +1,6 @@
 -- Which mitigations stand beside each other: what an operator may rely on.
-use Rattle.std.specs.Prelude.{◌≡◌, ◌≢◌, ℕ, ◌<◌, ◌≤◌, true, false, List, take, Some, slice_get}
+use Rattle.std.specs.Prelude.{◌≡◌, ◌≢◌, ℕ, ◌<◌, ◌≤◌, true, false, List, [], ◌∷◌, take, Some, slice_get, ⊤}
+use Rattle.dots_host.specs.Acts.{WireAct, took, gave, Timed}
 use Rattle.dots_history.specs.declared.entry.Entry.{Entry}
 use Rattle.dots_history.specs.declared.put.Put.{Put}
 use Rattle.dots_history.specs.declared.change.Change.TheVariants as change
@@ -27,3 +28,24 @@ pub record IsOrderly (state : State) : Type 0 where
   pub timely : last_time state.history ≤ state.time
   pub share_none : (t : ℕ) → last_time state.history ≤ t → ShareNone t state.history
   pub higher_stays : HigherStays state.history
+
+-- ---- after a crash, too
+
+-- The time isn't before that of the last entry; and at each time from that one on, and from this one on, they share none. A clock that runs backwards over a crash
+-- may make one stand again that was over.
+pub record SharesNoneSince (since : ℕ) (state : State) : Type 0 where
+  pub timely : last_time state.history ≤ state.time
+  pub share_none : (t : ℕ) → since ≤ t → last_time state.history ≤ t → ShareNone t state.history
+
+-- and so at each time from that of the last entry on
+abbrev pub SharesNone : State → Type 0
+SharesNone state = SharesNoneSince 0 state
+
+-- no event of these acts came before this time
+abbrev pub CameSince : ℕ → WireAct → Type 0
+CameSince since (took event at) = since ≤ at
+CameSince since (gave out done) = ⊤
+
+abbrev pub AllCameSince : ℕ → List Timed → Type 0
+AllCameSince since [] = ⊤
+AllCameSince since (timed ∷ acts) = CameSince since timed.act × AllCameSince since acts

@@ -1,9 +1,9 @@
 //! Laws of runs.
 
-ghost use Rattle.std.specs.Prelude.{◌≡◌, ◌⊎◌, ◌==◌, ℕ, ◌+◌, ◌<◌, ◌≤◌, false, ◌&&◌, List, [], ◌∷◌, ◌++◌, length, take, filter, Option, Some};
+ghost use Rattle.std.specs.Prelude.{◌≡◌, ◌⊎◌, ◌==◌, ℕ, ◌+◌, ◌<◌, ◌≤◌, max, false, ◌&&◌, List, [], ◌∷◌, ◌++◌, length, take, filter, Option, Some};
 ghost use Rattle.std.specs.List.{list_any};
 ghost use Rattle.dots_host.specs.Acts.{Timed};
-ghost use Rattle.dots_host.specs.Runs.{resting, outs_of, Trace};
+ghost use Rattle.dots_host.specs.Runs.{Owing, resting, outs_of, Trace};
 ghost use Rattle.dots_host.specs.declared.event.Event.{Event};
 ghost use Rattle.dots_host.specs.declared.event.Event.TheVariants as event;
 ghost use Rattle.dots_host.specs.declared.out.OwnedOut.{OwnedOut};
@@ -19,22 +19,31 @@ ghost use Rattle.slot_store.specs.Gates.{Sees};
 ghost use Rattle.slot_store.specs.Layout.{needed_of};
 ghost use Rattle.slot_journal.specs.DiskEntries.{HasEntries};
 ghost use Rattle.slot_journal.specs.Sizes.{slots_of};
-ghost use Rattle.dots_history.specs.Histories.{Kept, tally};
+ghost use Rattle.dots_history.specs.Histories.{Calm, Kept, tally};
+ghost use Rattle.dots_history.specs.Fits.{last_time};
+ghost use Rattle.http_cut.specs.Requests.{Request as Message};
+ghost use Rattle.rest_answers.specs.declared.caller.Caller.{Caller};
+ghost use Rattle.rest_answers.specs.Answer.{RestAnswer};
+ghost use Rattle.rest_answers.specs.Answers.{Answers};
 ghost use Rattle.session_core.specs.Notifying.{Apart};
 ghost use Rattle.dots_machine.specs.Surviving.{MeansAt, shown, time_at};
-ghost use Rattle.dots_machine.specs.Endings.{GivesSettings, IsReady};
+ghost use Rattle.dots_machine.specs.Endings.{GivesSettings, IsReady, Ran};
+ghost use Rattle.dots_machine.specs.declared.ending.Stop.{Stop};
+ghost use Rattle.dots_machine.specs.ConfiguredPeers.{configured_in};
+ghost use Rattle.dots_machine.specs.Facts.{Facts, AreFacts};
+ghost use Rattle.dots_machine.specs.OneView.{HaveOneView, ConfigureInOneDomain, AreReadAlike};
 ghost use Rattle.dots_machine.specs.Apart.{domain_of, SameFor, HaveOnePart, StaysApart};
 ghost use Rattle.dots_machine.specs.Answering.{AreBytes, IsHandedIn, IsUnavailable, HaveOneAnswer, Differ};
 ghost use Rattle.dots_machine.specs.Domains.{is_gateway, is_stranger};
 ghost use Rattle.dots_machine.specs.Requests.{IsReceived};
 ghost use Rattle.dots_machine.specs.MessageRepeats.{sent_for, IsRepeatOf};
 ghost use Rattle.dots_machine.specs.RepeatRule.{remembered_for, AsksToChange};
-ghost use Rattle.dots_machine.specs.Machine.{State, afresh, later, DecidesRequest, Step};
+ghost use Rattle.dots_machine.specs.Machine.{State, afresh, begun_from, later, DecidesRequest, Decides, AnswersFront, Step};
 ghost use Rattle.dots_machine.specs.Handlings.{Handling, IsHandling, EachHandling, handlings_of};
 ghost use Rattle.dots_machine.specs.Adding.{AddsExactly};
 ghost use Rattle.dots_machine.specs.RepeatAnswers.{IsRepeated, AnswersRepeats};
 ghost use Rattle.dots_machine.specs.Isolation.{IsIsolated};
-ghost use Rattle.dots_machine.specs.Orderly.{IsOrderly};
+ghost use Rattle.dots_machine.specs.Orderly.{IsOrderly, SharesNoneSince, SharesNone, AllCameSince};
 ghost use Rattle.dots_keys.specs.declared.exchange.Exchange.{Exchange};
 ghost use Rattle.dots_machine.specs.declared.received.Received.TheVariants as received;
 ghost use Rattle.dots_machine.specs.Verdict.{Verdict};
@@ -121,12 +130,49 @@ pub fn domains_are_isolated()
 
 /// No two mitigations of a domain that stand have an address in common, and of two of one client that overlap the one with the higher mid
 /// stands: so it is at the beginning, and so it stays over each step and each run.
+///
+/// That none is shared stays by itself, and over a crash, too. It does at the beginning (`shares_begun`), and over each step and each run whose events come since the time since
+/// which it does (`shares_step`, `shares_run`). Where a run began so, however it ended, a restart after a crash at any moment finds what
+/// shares none since the machine's time at that moment (`recovered`): a clock that runs backwards over a crash may make what had ended stand again. Where that time isn't
+/// after the last entry none is shared at any time (`since_last`).
 pub fn mitigations_stand_apart()
     ensures begun { (settings : SettingsValue) (t : ℕ) → IsOrderly (afresh settings [] t) }
     ensures step { (settings : SettingsValue) (old : State) (event : Event) (at : ℕ) (owed : List (State × OwnedOut)) (new : State)
         → IsOrderly old → Step settings old event at owed new → IsOrderly new }
     ensures run { (settings : SettingsValue) (from : State) (acts : List Timed) (trace : List State) (new : State)
         → IsOrderly from → Trace (Step settings) (resting from) acts trace (resting new) → IsOrderly new }
+    ensures shares_begun { (settings : SettingsValue) (t : ℕ) → SharesNone (afresh settings [] t) }
+    ensures shares_step { (settings : SettingsValue) (since : ℕ) (old : State) (event : Event) (at : ℕ) (owed : List (State × OwnedOut)) (new : State)
+        → SharesNoneSince since old → since ≤ at → Step settings old event at owed new → SharesNoneSince since new }
+    ensures shares_run { (settings : SettingsValue) (since : ℕ) (from : State) (acts : List Timed) (trace : List State) (new : State)
+        → SharesNoneSince since from → AllCameSince since acts → Trace (Step settings) (resting from) acts trace (resting new) → SharesNoneSince since new }
+    ensures recovered { (settings : SettingsValue) (since : ℕ) (start : State) (trace : List State) (end : Owing State) (how : Stop) (acts : List Timed)
+        (m : ℕ) (image : ℕ → ℕ) (media : Option Media) (stored : List Entry)
+        → SharesNoneSince since start → AllCameSince since acts → Ran settings start trace end how acts
+        → MeansAt settings start acts trace end.last.history m image → Sees media image → ((seen : ℕ → ℕ) → Sees media seen → HasEntries settings seen stored)
+        → SharesNoneSince (max since (time_at m acts trace start.time)) (begun_from settings stored) }
+    ensures since_last { (since : ℕ) (state : State) → since ≤ last_time state.history → SharesNoneSince since state → SharesNone state }
+{}
+
+/// What is decided is read from the view. Of two histories with one view, in each of which the session configurations of a peer are of one
+/// domain, what is known of the one is known of the other (`facts`): how a request is judged, whose name is taken, what stands and is shown, what is remembered and what is
+/// configured. All but the last needs the view alone (`rest`), and the configurations of a calm history are so (`calm`). So each datagram of each peer is decided on alike in two such
+/// states of one time (`decides`); each request of the data channel is answered alike (`answers`); and what stands at the front of a connection is answered alike, and adds the
+/// same to both (`fronts`).
+pub fn views_are_answered()
+    ensures facts { (settings : SettingsValue) (t : ℕ) (one other : List Entry) (facts : Facts)
+        → AreReadAlike settings t one other → AreFacts settings t one facts → AreFacts settings t other facts }
+    ensures rest { (settings : SettingsValue) (t : ℕ) (one other : List Entry) → HaveOneView settings t one other
+        → (facts : Facts) → AreFacts settings t one facts → AreFacts settings t other (record facts { configured = configured_in other }) }
+    ensures decides { (settings : SettingsValue) (old other : State) (peer : ℕ) (datagram : List ℕ) (decided : Verdict) → old.time ≡ other.time
+        → AreReadAlike settings old.time old.history other.history → Decides settings old peer datagram decided → Decides settings other peer datagram decided }
+    ensures answers { (settings : SettingsValue) (t : ℕ) (one other : List Entry) → HaveOneView settings t one other
+        → (caller : Caller) (message : Message) (answered : RestAnswer) → Answers settings t one caller message answered → Answers settings t other caller message answered }
+    ensures fronts { (settings : SettingsValue) (conn : ℕ) (old other : State) (sends : List OwnedOut) (new : State) → old.time ≡ other.time → old.lines ≡ other.lines
+        → HaveOneView settings old.time old.history other.history → AnswersFront settings conn old sends new
+        → (extra : List Entry) × (new.history ≡ old.history ++ extra)
+        × AnswersFront settings conn other sends (record other { history = other.history ++ extra; lines = new.lines }) }
+    ensures calm { (entries : List Entry) → Calm entries → ConfigureInOneDomain entries }
 {}
 
 /// Runs go on from one another over a crash. Where an image represents what a run had accepted and told at a moment, and a read of the disk of another run
