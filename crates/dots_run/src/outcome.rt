@@ -17,7 +17,7 @@ ghost use Rattle.dots_machine.specs.Commands.{is_served, is_show, is_command, se
 ghost use Rattle.dots_machine.specs.Endings.{status_of, has_hosted, Prints, ServesTo, Behaves, GivesFault, IsReady, IsReadable};
 ghost use Rattle.dots_machine.specs.Machine.{State};
 ghost use Rattle.dots_machine.specs.Outside.{Outside, outside};
-ghost use Rattle.dots_server.specs.ServerValues.{IsKept};
+ghost use Rattle.dots_server.specs.ServerValues.{RestartsWith};
 ghost use Rattle.dots_server.specs.Running.{Came, IsFollowed};
 ghost use Rattle.dots_run.specs.Refusals.{Counts, Wrote, WritesStop, FailsOnly, EndsSized};
 ghost use Rattle.dots_run.specs.Outcomes.{IsTooSmall};
@@ -164,7 +164,7 @@ fn host_events<H: Host, K: Sink>(
 fn serve<H: Host, K: Sink>(server: Server, host: &mut H, report: &mut K) -> Ending
     requires size { needed_of server.journal.slots ≤ H.extent host.old }
     // The run, and what was written of its last state: where the disk is told, or where the acts are and none is a restart.
-    ensures came { (settings : SettingsValue) (start : State) (stored : List Entry) → IsKept server settings start stored
+    ensures came { (settings : SettingsValue) (start : State) (stored : List Entry) → RestartsWith server settings start stored
         → IsFollowed (RestsWith (H.media host.old) (journal.Represents server.journal settings stored)) (H.acts host.old) (H.acts host.new)
         → (how : Stop) × (end : Owing State) × Came settings start how (H.media host.old) (H.media host.new) (RestsWith (H.media host.old) (journal.Represents server.journal settings stored))
         (H.acts host.old) (H.acts host.new) end

@@ -219,9 +219,9 @@ weaker : (low previous : ℕ) (os : List CoapOption) → low ≤ previous → Ar
 weaker low previous [] le are = tt
 weaker low previous (o ∷ os) le are = let first = are.0 in (omega (arith, le, first), are.1, are.2, are.3)
 
-kept_options : (previous : ℕ) (os : List CoapOption) → AreOptions previous os → AreOptions previous (without_observe os)
-kept_options previous [] are = tt
-kept_options previous (o ∷ os) are = by (o.number == 6) (kept_options o.number os are.3)
+left_options : (previous : ℕ) (os : List CoapOption) → AreOptions previous os → AreOptions previous (without_observe os)
+left_options previous [] are = tt
+left_options previous (o ∷ os) are = by (o.number == 6) (left_options o.number os are.3)
   where
     by : (b : Bool) → AreOptions o.number (without_observe os) → AreOptions previous (cond (not b) (o ∷ without_observe os) (without_observe os))
     by true rest = weaker previous o.number (without_observe os) are.0 rest
@@ -235,7 +235,7 @@ pub record IsKeyed (x : Exchange) : Type 0 where
 module _ (x : Exchange) (m : CoapMessage) (token : List ℕ) (mid : ℕ) (lifetime : ℤ) (keyed : IsKeyed x) (is : IsMessage m) where
   -- the code of a grant isn't that of an empty message
   answered_message : (m.code ≡ 0 → ⊥) → IsMessage (answered x m)
-  answered_message some = record { code = is.code; identifier = keyed.id; token = keyed.token; options = kept_options 0 m.options is.options; empty = λ none. absurd (some none) }
+  answered_message some = record { code = is.code; identifier = keyed.id; token = keyed.token; options = left_options 0 m.options is.options; empty = λ none. absurd (some none) }
 
   grants_some : IsGrant (spelling (answered x m)) token mid lifetime → m.code ≡ 0 → ⊥
   grants_some g none = quiet (answered x m) (ap may_grant none) (grant_says (spelling (answered x m)) token mid lifetime g)

@@ -4,7 +4,7 @@ pub mod Adding
 pub mod Granting
 pub mod OneGrant
 pub mod Bounds
-pub mod MachineKept
+pub mod MachineStays
 pub mod Others
 pub mod ReceivedAs
 pub mod Forwarding

@@ -50,7 +50,7 @@ use Rattle.dots_world.specs.ReceivedAs.{IsReadAs}
 use Rattle.dots_world.proofs.Adding.{step_adds}
 use Rattle.dots_world.proofs.Forwarding.{asking_forwarded, withdrawing_forwarded}
 use Rattle.dots_world.proofs.Granting.{step_grants}
-use Rattle.dots_world.proofs.MachineKept.{kept_grant}
+use Rattle.dots_world.proofs.MachineStays.{grant_stays}
 use Rattle.dots_world.proofs.Others.{step_grants_none}
 use Rattle.dots_world.proofs.ReceivedAs.{asking_read, withdrawing_read}
 use Rattle.dots_world.proofs.Telling.{Says, quiet, plain_message, body_message, grant_says}
@@ -127,7 +127,7 @@ module _ (plan : Plan) (is_plan : IsPlan plan) (time peer : ℕ) (datagram : Lis
           token = token;
         };
         says = λ other other_mid lifetime g.
-            let k = kept_grant plan.settings time peer datagram e other other_mid lifetime c g in
+            let k = grant_stays plan.settings time peer datagram e other other_mid lifetime c g in
             let most = is_plan.settings.most_ceiling in
             let said = k.same (k.within (omega (arith, most))) in
             (k.put, k.changes, said.1, said.2);
@@ -247,17 +247,17 @@ module _ (plan : Plan) (is_plan : IsPlan plan) where
           absurd (head_refused (message_with number cuid mid aim) false reject.Parameter c.exchange c.asked (written number mid cuid named small aim) (slash_head number mid cuid named e small aim)
           (subst (λ g. IsReceived (spelling (message_with number cuid mid aim)) g (received.Asked c.exchange c.asked)) (ap is_gateway whose) c.received))
 
-  grants_kept : (old : State) (came : Event) (at : ℕ) (owed : List (State × OwnedOut)) (new : State) (to : ℕ) (bytes token : List ℕ) (mid : ℕ) (lifetime : ℤ)
+  grants_stay : (old : State) (came : Event) (at : ℕ) (owed : List (State × OwnedOut)) (new : State) (to : ℕ) (bytes token : List ℕ) (mid : ℕ) (lifetime : ℤ)
       → Step plan.settings old came at owed new → Contains (outs_of owed) (owned.To to bytes) → IsGrant bytes token mid lifetime → Answered new.history to bytes
-  grants_kept old (event.Datagram peer datagram) at owed new to bytes token mid lifetime st has g =
+  grants_stay old (event.Datagram peer datagram) at owed new to bytes token mid lifetime st has g =
       let w = step_grants plan.settings old peer datagram at owed new to bytes token mid lifetime st has g in (w.entry, w.kept, w.peer_is, w.reply_is)
-  grants_kept old (event.Opened conn peer) at owed new to bytes token mid lifetime st has g = absurd (step_grants_none plan.settings old (event.Opened conn peer) at owed new to bytes token mid lifetime tt st has g)
-  grants_kept old (event.Piece conn piece) at owed new to bytes token mid lifetime st has g = absurd (step_grants_none plan.settings old (event.Piece conn piece) at owed new to bytes token mid lifetime tt st has g)
-  grants_kept old (event.Closed conn) at owed new to bytes token mid lifetime st has g = absurd (step_grants_none plan.settings old (event.Closed conn) at owed new to bytes token mid lifetime tt st has g)
-  grants_kept old event.Tick at owed new to bytes token mid lifetime st has g = absurd (step_grants_none plan.settings old event.Tick at owed new to bytes token mid lifetime tt st has g)
-  grants_kept old event.Restart at owed new to bytes token mid lifetime st has g = absurd (step_grants_none plan.settings old event.Restart at owed new to bytes token mid lifetime tt st has g)
-  grants_kept old event.End at owed new to bytes token mid lifetime st has g = absurd (step_grants_none plan.settings old event.End at owed new to bytes token mid lifetime tt st has g)
-  grants_kept old event.Failed at owed new to bytes token mid lifetime st has g = absurd (step_grants_none plan.settings old event.Failed at owed new to bytes token mid lifetime tt st has g)
+  grants_stay old (event.Opened conn peer) at owed new to bytes token mid lifetime st has g = absurd (step_grants_none plan.settings old (event.Opened conn peer) at owed new to bytes token mid lifetime tt st has g)
+  grants_stay old (event.Piece conn piece) at owed new to bytes token mid lifetime st has g = absurd (step_grants_none plan.settings old (event.Piece conn piece) at owed new to bytes token mid lifetime tt st has g)
+  grants_stay old (event.Closed conn) at owed new to bytes token mid lifetime st has g = absurd (step_grants_none plan.settings old (event.Closed conn) at owed new to bytes token mid lifetime tt st has g)
+  grants_stay old event.Tick at owed new to bytes token mid lifetime st has g = absurd (step_grants_none plan.settings old event.Tick at owed new to bytes token mid lifetime tt st has g)
+  grants_stay old event.Restart at owed new to bytes token mid lifetime st has g = absurd (step_grants_none plan.settings old event.Restart at owed new to bytes token mid lifetime tt st has g)
+  grants_stay old event.End at owed new to bytes token mid lifetime st has g = absurd (step_grants_none plan.settings old event.End at owed new to bytes token mid lifetime tt st has g)
+  grants_stay old event.Failed at owed new to bytes token mid lifetime st has g = absurd (step_grants_none plan.settings old event.Failed at owed new to bytes token mid lifetime tt st has g)
 
   pub machine_serves : IsServing plan history_of (Step plan.settings)
   machine_serves = record {
@@ -267,5 +267,5 @@ module _ (plan : Plan) (is_plan : IsPlan plan) where
     asked = λ old peer number mid cuid aim domain at owed new now whose named small can are st. asked_law old peer number mid cuid domain at owed new now whose named small aim can are st (is_client_name cuid) refl;
     forwards = λ old peer next number mid domain cuid aim at owed new now whose named_domain_is named small can are st.
         passed_adds old peer next number mid domain cuid at owed new now whose named_domain_is named small aim can are st;
-    grants = grants_kept;
+    grants = grants_stay;
   }

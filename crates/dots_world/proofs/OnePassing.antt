@@ -16,7 +16,7 @@ use Rattle.dots_gateway.specs.declared.passed.Passed.TheVariants as passed
 use Rattle.dots_gateway.specs.declared.passed.GatewayFault.TheVariants as fault
 use Rattle.dots_gateway.specs.Gateway.{GatewayValue, Said, Ups, of_no_client, unreadable, asking, asked_said, after, IsBeat, beat_answer, response_said, Downs, no_message, beating, answering, UpOrLacks, DownOrLacks}
 use Rattle.gateway_agent.specs.Passing.{GatewayState, Refuses, answered, silent, UpSends, sends_of, fresh_in, GoesUp, GoesDown, Passes, state_at}
-use Rattle.dots_world.specs.OneWorld.{GoesUpWell, GoesDownWell, PassesWell}
+use Rattle.gateway_agent.specs.PassingWell.{GoesUpWell, GoesDownWell, PassesWell}
 
 -- ---- what is said
 

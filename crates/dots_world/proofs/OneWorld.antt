@@ -29,7 +29,8 @@ use Rattle.dots_world.proofs.OneReceiving.{one_packet, one_ask, one_handing}
 use Rattle.dots_world.proofs.Over.{happens_keep, at_first}
 use Rattle.dots_world.proofs.Received.{no_server_at}
 use Rattle.dots_world.proofs.Serving.{Inv}
-use Rattle.dots_world.proofs.Unwatched.{RegistersNobody, without_observe, without_request, IsUnwatching, still_none, one_step}
+use Rattle.dots_machine.proofs.Unobserved.{RegistersNobody, without_observe}
+use Rattle.dots_world.proofs.Unwatched.{without_request, IsUnwatching, still_none, one_step}
 
 -- ---- a run without want of memory is a run
 

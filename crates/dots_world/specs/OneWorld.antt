@@ -1,6 +1,5 @@
 -- A world in which nobody lacked memory. Its events decide it.
-use Rattle.std.specs.Prelude.{◌≡◌, ◌≢◌, ℕ, suc, ◌==◌, List, [], ◌∷◌, length, slice_get, count_by, Option, Some, None, Err}
-use Rattle.std.specs.Bool.{MatchBool}
+use Rattle.std.specs.Prelude.{◌≡◌, ◌≢◌, ℕ, suc, List, [], ◌∷◌, length, slice_get, count_by, Option, Some, None}
 use Rattle.std.specs.List.{range_with_len}
 use Rattle.dots_host.specs.declared.event.Event.{Event}
 use Rattle.dots_host.specs.declared.event.Event.TheVariants as event
@@ -8,31 +7,19 @@ use Rattle.dots_host.specs.declared.out.OwnedOut.{OwnedOut}
 use Rattle.dots_host.specs.Runs.{outs_of}
 use Rattle.dots_load.specs.Report.{unavailable}
 use Rattle.dots_client.specs.declared.heard.Heard.TheVariants as heard
-use Rattle.dots_gateway.specs.declared.passed.Passed.TheVariants as passed
-use Rattle.dots_gateway.specs.declared.passed.GatewayFault.TheVariants as fault
-use Rattle.gateway_agent.specs.Passing.{GatewayState, GoesUp, GoesDown, Passes, state_at}
+use Rattle.gateway_agent.specs.Passing.{GatewayState}
+use Rattle.gateway_agent.specs.PassingWell.{PassesWell}
 use Rattle.dots_machine.specs.Answering.{AreBytes}
 use Rattle.dots_world.specs.Plans.{Party, a_client, the_gateway, the_server, Plan, to_gateway}
-use Rattle.dots_world.specs.Worlds.{Packet, World, WorldEvent, delivers, passed as passed_on, ReceivesPacket, AllHandOut, Comes, Begins}
+use Rattle.dots_world.specs.Worlds.{Packet, World, WorldEvent, delivers, passed, ReceivesPacket, AllHandOut, Comes, Begins}
 
 -- the server sends no 5.00, as which it tells its want of memory
 abbrev pub StepsWell : {S : Type 0} → (S → Event → ℕ → List (S × OwnedOut) → S → Type 0) → S → Event → ℕ → List (S × OwnedOut) → S → Type 0
 StepsWell step old came at owed new = step old came at owed new × (count_by unavailable (outs_of owed) ≡ 0)
 
--- The gateway does with a datagram what its rules say, and want of memory takes the place of nothing.
-abbrev pub GoesUpWell : GatewayState → ℕ → List ℕ → List OwnedOut → GatewayState → Type 0
-GoesUpWell old peer datagram outs new = (goes : GoesUp old peer datagram outs new) × (goes.said ≢ Err fault.NoMemory)
-
-abbrev pub GoesDownWell : GatewayState → List ℕ → List OwnedOut → GatewayState → Type 0
-GoesDownWell old datagram outs new = (goes : GoesDown old datagram outs new) × (goes.said ≢ passed.NoMemory)
-
-abbrev pub PassesWell : GatewayState → Event → ℕ → List OwnedOut → GatewayState → Type 0
-PassesWell old (event.Datagram from bytes) at outs new =
-    MatchBool (from == old.core.upstream) (GoesDownWell (state_at old at) bytes outs new) (GoesUpWell (state_at old at) from bytes outs new)
-PassesWell old came at outs new = Passes old came at outs new
-
+-- and the gateway lacks none for what it passes on
 abbrev pub PassesOnWell : {S : Type 0} → Plan → World S → Event → World S → Type 0
-PassesOnWell plan old came new = (outs : List OwnedOut) × (gateway : GatewayState) × PassesWell old.gateway came old.time outs gateway × (new ≡ passed_on plan old outs gateway)
+PassesOnWell plan old came new = (outs : List OwnedOut) × (gateway : GatewayState) × PassesWell old.gateway came old.time outs gateway × (new ≡ passed plan old outs gateway)
 
 -- a client takes what was granted
 abbrev pub ReceivesWell : {S : Type 0} → Plan → World S → ℕ → List ℕ → World S → Type 0

@@ -5,7 +5,7 @@ use Rattle.slot_journal.specs.DiskEntries as journal
 use Rattle.dots_machine.specs.Machine.{begun_from}
 use Rattle.dots_machine.specs.Outside.{Outside}
 use Rattle.dots_history.specs.Calm.{is_own}
-use Rattle.dots_server.specs.ServerValues.{ServerValue, IsKept}
+use Rattle.dots_server.specs.ServerValues.{ServerValue, RestartsWith}
 use Rattle.dots_run.specs.Refusals.{Counts, Wrote, FailsOnly}
 use Rattle.dots_run.proofs.Serving.{begun_zero, followed_by, sees_of, serves_to, unrecovered_counts}
 use Rattle.dots_run.proofs.outcome.host_events.Goals as goal
@@ -63,7 +63,7 @@ returns-in-Ok-clause-machine g c = λ left left_now faults faults_now.
     c.serve.ensures.sized
     (λ told.
     let (how, end, came, wrote) = c.serve.ensures.came c.args.settings (begun_from c.args.settings stored) stored
-    (subst (λ state. IsKept c.in-Ok.server c.args.settings state stored) (begun_zero c.args.settings stored) kept)
+    (subst (λ state. RestartsWith c.in-Ok.server c.args.settings state stored) (begun_zero c.args.settings stored) kept)
     (followed_by (RestsWith (g.H.Disk.media mid) (journal.Represents c.in-Ok.server.journal c.args.settings stored)) before after (g.H.Wire.acts mid) keeps.0 c.serve.ensures.adds (λ seen sees. (disk seen sees).1) told) in
     (how, end, came, wrote before after counted counts))
     (let (how, state, own, wrote) = c.serve.ensures.any in (

@@ -58,8 +58,8 @@ module _ (settings : SettingsValue) (datagram : List ℕ) (gateway : Bool) (x : 
   by_request (request.GetConfig sid) received c = absurd c
   by_request (request.PutHeartbeat heard) received c = absurd c
 
-pub kept_grant : (settings : SettingsValue) (time peer : ℕ) (datagram : List ℕ) (entry : Entry) (token : List ℕ) (mid : ℕ) (lifetime : ℤ)
+pub grant_stays : (settings : SettingsValue) (time peer : ℕ) (datagram : List ℕ) (entry : Entry) (token : List ℕ) (mid : ℕ) (lifetime : ℤ)
     (carries : CarriesRequest settings time peer datagram entry) → IsGrant entry.reply token mid lifetime → IsGrantFor settings carries.exchange entry token mid lifetime
-kept_grant settings time peer datagram entry token mid lifetime carries grant =
+grant_stays settings time peer datagram entry token mid lifetime carries grant =
     by_request settings datagram (is_gateway (role_of settings peer)) carries.exchange (asked_exchange datagram (is_gateway (role_of settings peer)) carries.exchange carries.asked carries.received)
     entry token mid lifetime grant carries.asked carries.received carries.carries
