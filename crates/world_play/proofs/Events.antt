@@ -1,4 +1,5 @@
 -- What an event is by its draws.
+use Rattle.std.specs.Prelude.{if◌then◌else◌, ◌==◌}
 use Rattle.std.proofs.Common.{◌≡◌, ℕ, suc, ◌+◌, ◌*◌, ◌%◌, ◌<◌, ◌≤◌, ap, sym, ◌∙◌, refl, arith}
 use Rattle.std.proofs.lemmas.Bool.Decides.{nat_tests}
 use Rattle.dots_client.specs.declared.ask.Ask.{Ask}
@@ -15,11 +16,11 @@ asking drawn time packets is = rw is refl
 pub ask_event : (drawn : Drawn) (time packets : ℕ) (ask : Ask) → drawn.first % 8 ≡ 0 → ask ≡ ask_for (drawn.second % 3) drawn.third → event.Ask (drawn.second % 3) ask ≡ event_by drawn time packets
 ask_event drawn time packets ask is asks = ap (λ (x : Ask). event.Ask (drawn.second % 3) x) asks ∙ sym (asking drawn time packets is)
 
-pub restart_event : (drawn : Drawn) (time packets : ℕ) → drawn.first % 8 ≡ 2 → drawn.third % 16 ≡ 0 → event_by drawn time packets ≡ event.Restart
+pub restart_event : (drawn : Drawn) (time packets : ℕ) → drawn.first % 8 ≡ 2 → drawn.third % 16 < 2 → event_by drawn time packets ≡ (if drawn.third % 16 == 0 then event.Restart else event.GatewayRestart)
 unfolding event_by
-restart_event drawn time packets is also = rw is (rw also refl)
+restart_event drawn time packets is few = grind (arith, nat_tests)
 
-pub tick_event : (drawn : Drawn) (time packets : ℕ) → ¬ (drawn.first % 8 ≡ 0) → (drawn.first % 8 ≡ 2 → ¬ (drawn.third % 16 ≡ 0)) → drawn.first % 8 < 3 → event_by drawn time packets ≡ event.Tick time
+pub tick_event : (drawn : Drawn) (time packets : ℕ) → ¬ (drawn.first % 8 ≡ 0) → (drawn.first % 8 ≡ 2 → 2 ≤ drawn.third % 16) → drawn.first % 8 < 3 → event_by drawn time packets ≡ event.Tick time
 unfolding event_by
 tick_event drawn time packets not_first not_restart less = grind (arith, nat_tests)
 

@@ -12,7 +12,8 @@ use Rattle.dots_world.specs.declared.party.Packet.{Packet}
 use Rattle.dots_world.specs.declared.party.Party.TheVariants.{Gateway as the_gateway}
 use Rattle.gateway_agent.specs.Stores.{IsOn}
 use Rattle.gateway_agent.specs.Passing.{GatewayState}
-use Rattle.gateway_agent.specs.Turning.{Took}
+use Rattle.gateway_agent.specs.PassingWell.{PassesWell}
+use Rattle.gateway_agent.specs.Turning.{TookBy}
 use Rattle.world_play.specs.declared.parties.Parties.{Parties}
 use Rattle.world_play.specs.declared.passing.GatewaySide.{GatewaySide}
 use Rattle.world_play.specs.Calls.{sent_in}
@@ -22,7 +23,7 @@ use Rattle.world_play.proofs.Packets.{packets_are}
 use Rattle.world_play.proofs.Sends.{AreSends, given_sends, rests_on, added_calls}
 
 pub has_passed : (parties : Parties) (state : GatewayState) (came : Event) (at : ℕ) (old now : GatewaySide) (packets packets_now : List Packet) → IsIn parties old state
-    → Took parties.gateway_settings state came at (agent_of old) (agent_of now) (Some (media_of old.host.disk)) (Some (media_of now.host.disk)) (told old.host.disk.whole old.host.disk.acts)
+    → TookBy (λ outs new. PassesWell state came at outs new) parties.gateway_settings state (agent_of old) (agent_of now) (Some (media_of old.host.disk)) (Some (media_of now.host.disk)) (told old.host.disk.whole old.host.disk.acts)
     (told now.host.disk.whole now.host.disk.acts)
     → now.host.disk.whole ≡ true → HandsOut old.host now.host
     → packets_now ≡ packets ++ flat_map (packets_in parties the_gateway) (drop (length old.host.disk.acts) now.host.disk.acts) → HasPassed parties state came at now packets packets_now

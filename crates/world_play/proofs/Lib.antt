@@ -1,4 +1,5 @@
 mod Events
+mod PlanLemmas
 mod RunLeading
 pub mod Sends
 pub mod Packets

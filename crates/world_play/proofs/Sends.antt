@@ -1,6 +1,8 @@
 -- What was sent, among the calls of a host.
 use Rattle.std.proofs.Common.{◌≡◌, ℕ, suc, ◌+◌, Bool, true, false, List, [], ◌∷◌, ◌++◌, length, map, drop, Option, Some, None, refl, sym, ap, ◌∙◌, subst, append_assoc, append-nil, arith}
-use Rattle.std.specs.Prelude.{flat_map, ⊤}
+use Rattle.std.specs.Prelude.{flat_map, count_by, ◌==◌, ⊤}
+use Rattle.std.proofs.lemmas.Bool.{eqb-true}
+use Rattle.dots_load.specs.Report.{sends_in, unavailable}
 use Rattle.dots_host.specs.declared.act.Act.{Act}
 use Rattle.dots_host.specs.declared.act.Act.TheVariants as act
 use Rattle.dots_host.specs.declared.out.OwnedOut.{OwnedOut}
@@ -58,6 +60,20 @@ sends_are m (out ∷ outs) (act.Gave o d ∷ calls) are = ap (λ x. x ∷ flat_m
 sends_are m outs (act.Read o ∷ calls) are = sends_are (m + 1) outs calls are
 sends_are m outs (act.Wrote a b o ∷ calls) are = sends_are (m + 1) outs calls are
 sends_are m outs (act.Synced o ∷ calls) are = sends_are (m + 1) outs calls are
+
+-- the sends among the acts of a wire are those of the calls
+sends_among : (m : ℕ) (calls : List Act) → sends_in (wire_acts m calls) ≡ flat_map sent_in calls
+sends_among m [] = refl
+sends_among m (act.Took e t ∷ calls) = sends_among (m + 1) calls
+sends_among m (act.Gave o d ∷ calls) = ap (λ more. o ∷ more) (sends_among (m + 1) calls)
+sends_among m (act.Read o ∷ calls) = sends_among (m + 1) calls
+sends_among m (act.Wrote a b o ∷ calls) = sends_among (m + 1) calls
+sends_among m (act.Synced o ∷ calls) = sends_among (m + 1) calls
+
+-- no reply among the calls is 5.00
+pub none_unavailable : (calls : List Act) (served : Bool) → served ≡ (count_by unavailable (sends_in (wire_acts 0 calls)) == 0) → served ≡ true → count_by unavailable (flat_map sent_in calls) ≡ 0
+none_unavailable calls served is none =
+    ap (count_by unavailable) (sym (sends_among 0 calls)) ∙ eqb-true (count_by unavailable (sends_in (wire_acts 0 calls))) 0 (sym is ∙ none)
 
 -- ---- what a disk rests with
 

@@ -1,6 +1,7 @@
 -- What the server of a world has done.
 use Rattle.std.proofs.Common.{◌≡◌, ℕ, true, List, [], ◌∷◌, ◌++◌, length, map, drop, Option, Some, refl, sym, ap, ◌∙◌, subst, append_assoc}
-use Rattle.std.specs.Prelude.{flat_map}
+use Rattle.std.specs.Prelude.{flat_map, count_by}
+use Rattle.dots_load.specs.Report.{unavailable}
 use Rattle.dots_host.specs.declared.act.Act.{Act}
 use Rattle.dots_host.specs.declared.act.Act.TheVariants as act
 use Rattle.dots_host.specs.declared.event.Event.{Event}
@@ -21,7 +22,7 @@ use Rattle.dots_world.specs.Worlds.{sent_act}
 use Rattle.dots_history.specs.declared.entry.Entry.{Entry}
 use Rattle.slot_journal.specs.DiskEntries as journal
 use Rattle.dots_machine.specs.Machine.{State, begun_from, restarted}
-use Rattle.dots_server.specs.ServerValues.{IsKept}
+use Rattle.dots_server.specs.ServerValues.{RestartsWith}
 use Rattle.dots_server.specs.Turning.{Stored, LiesOn, Chained}
 use Rattle.dots_server.specs.Taking.{Took}
 use Rattle.world_play.specs.declared.parties.Parties.{Parties}
@@ -75,10 +76,11 @@ has_taken came at acts now taken = ap acts_in taken ∙ acts_then acts (act.Took
 pub has_served : (settings : SettingsValue) (parties : Parties) (state : State) (came : Event) (at : ℕ) (old now : ServerSide) (between : List Act) (packets packets_now : List Packet) (is : IsIn settings old state)
     → Took settings state came at old.server now.server is.entries (Some (media_of old.host.disk)) (Some (media_of now.host.disk)) (told old.host.disk.whole old.host.disk.acts) (told now.host.disk.whole now.host.disk.acts)
     → now.host.disk.whole ≡ true → HandsOut old.host now.host → between ≡ old.acts.acts ++ act.Took came at ∷ []
+    → count_by unavailable (flat_map sent_in (drop (length old.host.disk.acts) now.host.disk.acts)) ≡ 0
     → now.acts.acts ≡ between ++ flat_map given_in (drop (length old.host.disk.acts) now.host.disk.acts)
     → packets_now ≡ packets ++ flat_map (packets_in parties the_server) (drop (length old.host.disk.acts) now.host.disk.acts)
     → HasServed settings parties state came at now old.acts.acts packets packets_now
-has_served settings parties state came at old now between packets packets_now is took_it whole leads taken given posted =
+has_served settings parties state came at old now between packets packets_now is took_it whole leads taken enough given posted =
     let calls = drop (length old.host.disk.acts) now.host.disk.acts in
     let outs = outs_of (owed_in took_it.turns) in
     let added = chain_sends settings took_it.new.time state _ took_it.turns _ _ _ _ _ took_it.chained in
@@ -86,7 +88,7 @@ has_served settings parties state came at old now between packets packets_now is
     record {
       owed = owed_in took_it.turns;
       new = took_it.new;
-      step = took_it.step;
+      step = (took_it.step, ap (count_by unavailable) (sym sent) ∙ enough);
       is_in = record { entries = took_it.few; kept = took_it.kept; rests = chain_rests settings took_it.new.time state _ took_it.turns _ _ _ _ _ took_it.chained is.rests };
       sent = posted ∙ ap (λ more. packets ++ more) (packets_are parties the_server calls ∙ ap (flat_map (packet_sent parties the_server)) sent);
       told = ap acts_in given ∙ acts_then between (flat_map given_in calls) ∙ ap (λ front. front ++ acts_in (flat_map given_in calls)) (has_taken came at old.acts.acts between taken)
@@ -95,7 +97,7 @@ has_served settings parties state came at old now between packets packets_now is
     }
 
 -- a server that began with an empty disk
-pub begun_in : (settings : SettingsValue) (side : ServerSide) (stored : List Entry) → IsKept side.server settings (restarted settings (begun_from settings stored) 0) stored
+pub begun_in : (settings : SettingsValue) (side : ServerSide) (stored : List Entry) → RestartsWith side.server settings (restarted settings (begun_from settings stored) 0) stored
     → RestsWith (Some (media_of side.host.disk)) (journal.Represents side.server.journal settings stored) → stored ≡ [] → IsIn settings side (begun_from settings [])
 begun_in settings side stored kept rests none =
     subst (λ entries. IsIn settings side (restarted settings (begun_from settings entries) 0)) none (record { entries = stored; kept = kept; rests = rests })

@@ -1,8 +1,9 @@
 -- What clients do, by their places.
-use Rattle.std.specs.Prelude.{◌≡◌, ℕ, ◌%◌, ◌^◌, ◌⊎◌, Bool, List, [], ◌∷◌, ◌++◌, map, slice_get, Some}
+use Rattle.std.specs.Prelude.{◌≡◌, ◌≢◌, ℕ, ◌%◌, ◌^◌, ◌⊎◌, Bool, List, [], ◌∷◌, ◌++◌, map, slice_get, Some}
 use Rattle.std.specs.List.{slice_set}
 use Rattle.dots_client.specs.declared.ask.Ask.{Ask}
 use Rattle.dots_client.specs.declared.heard.Heard.{Heard}
+use Rattle.dots_client.specs.declared.heard.Heard.TheVariants as heard
 use Rattle.dots_client.specs.Client.{ClientValue, asked_at}
 use Rattle.dots_client.specs.Receiving.{Receives}
 use Rattle.dots_world.specs.declared.party.Packet.{Packet}
@@ -16,13 +17,14 @@ AskedAt clients place what now new =
     ((client : ClientValue) × (slice_get clients place ≡ Some client) × MayAsk client what × (new ≡ slice_set clients place (asked_at client what now (client.number % 2 ^ 16))))
     ⊎ (((client : ClientValue) → slice_get clients place ≡ Some client → MayAsk client what → ⊥) × (new ≡ clients))
 
--- it gets a message
+-- it gets a message, and has memory for what was granted
 pub record ReceivedAt (clients : List ClientValue) (place : ℕ) (behind : Bool) (bytes : List ℕ) (now : ℕ) (new : List ClientValue) (packets packets_now : List Packet) : Type 0 where
   pub client : ClientValue
   pub there : slice_get clients place ≡ Some client
   pub said : Heard
   pub after : ClientValue
   pub receives : Receives client bytes now said after
+  pub enough : said ≢ heard.NoMemory
   pub leaves : new ≡ slice_set clients place after
   pub posted : packets_now ≡ packets ++ map (packet_of place behind) (answers_to said)
 

@@ -10,7 +10,8 @@ use Rattle.slot_store.specs.Layout.{needed_of}
 use Rattle.gateway_agent.specs.Stores.{IsOn}
 use Rattle.gateway_agent.specs.Keeping.{AgentValue, AreJoined, IsFor, agent}
 use Rattle.gateway_agent.specs.Keeping as keeping
-use Rattle.gateway_agent.specs.Passing.{GatewayState, Passes}
+use Rattle.gateway_agent.specs.Passing.{GatewayState}
+use Rattle.gateway_agent.specs.PassingWell.{PassesWell}
 use Rattle.world_play.specs.declared.parties.Parties.{Parties}
 use Rattle.world_play.specs.declared.passing.GatewaySide.{GatewaySide}
 use Rattle.world_play.specs.Parties.{upstream_for}
@@ -30,10 +31,10 @@ pub record IsIn (parties : Parties) (side : GatewaySide) (state : GatewayState) 
   pub is_in : keeping.IsIn (agent_of side) state
   pub rests : RestsWith (Some (media_of side.host.disk)) (IsOn parties.gateway_settings side.store)
 
--- It has taken an event, by one step of its machine, and what that sends stands behind the packets.
+-- It has taken an event, by one step of its machine for which memory was enough, and what that sends stands behind the packets.
 pub record HasPassed (parties : Parties) (state : GatewayState) (came : Event) (at : ℕ) (now : GatewaySide) (packets packets_now : List Packet) : Type 0 where
   pub outs : List OwnedOut
   pub new : GatewayState
-  pub passes : Passes state came at outs new
+  pub passes : PassesWell state came at outs new
   pub is_in : IsIn parties now new
   pub sent : packets_now ≡ packets ++ flat_map (packet_sent parties the_gateway) outs

@@ -1,4 +1,4 @@
--- What a world that was played shows of a world.
+-- What a world that was played plays of a world.
 use Rattle.std.specs.Prelude.{◌≡◌, ℕ, ◌<◌, ◌≤◌, ◌^◌, ⊤, List, max, length, Option, Some}
 use Rattle.std.specs.List.{AllByRecursion}
 use Rattle.dots_settings.specs.Settings.{SettingsValue}
@@ -7,7 +7,8 @@ use Rattle.dots_machine.specs.Machine.{State, Step}
 use Rattle.dots_world.specs.declared.party.Packet.{Packet}
 use Rattle.dots_world.specs.declared.event.WorldEvent.{WorldEvent}
 use Rattle.dots_world.specs.declared.event.WorldEvent.TheVariants as event
-use Rattle.dots_world.specs.Worlds.{World, Serves, PassesOn, Comes, Begins, Happens, Runs}
+use Rattle.dots_world.specs.Worlds.{World, Serves}
+use Rattle.dots_world.specs.OneWorld.{PassesOnWell, ComesWell, BeginsWell, HappensWell, RunsWell}
 use Rattle.dots_world.specs.declared.party.Party.{Party}
 use Rattle.dots_world.specs.Plans.{Plan, to_server, to_gateway}
 use Rattle.dots_host.specs.declared.event.Event.{Event}
@@ -31,7 +32,7 @@ pub record PlayedValue : Type 0 where
   pub packets : List Packet
 
 -- The parties of the world are in the states that were come to, their disks rest with what they keep, and all that was sent is the same.
-pub record Shows (settings : SettingsValue) (played : PlayedValue) (world : World State) : Type 0 where
+pub record PlaysAs (settings : SettingsValue) (played : PlayedValue) (world : World State) : Type 0 where
   pub time : played.time ≡ world.time
   pub server : serving.IsIn settings played.server world.server
   pub gateway : passing.IsIn played.parties played.gateway world.gateway
@@ -53,9 +54,9 @@ abbrev pub IsEarly : WorldEvent → Type 0
 IsEarly (event.Tick at) = at < 2 ^ 48
 IsEarly _ = ⊤
 
--- from each world that the one shows the other shows one that this leads to
+-- from each world that the one plays the other plays one that this leads to
 pub record Goes (settings : SettingsValue) (leads : World State → World State → Type 0) (old new : PlayedValue) : Type 0 where
-  pub goes : (world : World State) → Shows settings old world → (next : World State) × leads world next × Shows settings new next
+  pub goes : (world : World State) → PlaysAs settings old world → (next : World State) × leads world next × PlaysAs settings new next
 
 -- an event that is no restart
 abbrev pub IsTaken : WorldEvent → Type 0
@@ -72,18 +73,18 @@ abbrev pub ComesToServer : (State → Event → ℕ → List (State × OwnedOut)
 ComesToServer step plan old source bytes new = (peer : ℕ) × (to_server plan source ≡ Some peer) × Serves step plan old (incoming.Datagram peer bytes) new
 
 abbrev pub ComesToGateway : Plan → Party → List ℕ → World State → World State → Type 0
-ComesToGateway plan source bytes old new = (peer : ℕ) × (to_gateway plan source ≡ Some peer) × PassesOn plan old (incoming.Datagram peer bytes) new
+ComesToGateway plan source bytes old new = (peer : ℕ) × (to_gateway plan source ≡ Some peer) × PassesOnWell plan old (incoming.Datagram peer bytes) new
 
 -- The following don't unfold by themselves, so that the machine's step stands in no goal.
 
 unfoldable pub ComesSo : SettingsValue → Parties → Party → Option Party → List ℕ → World State → World State → Type 0
-ComesSo settings parties source target bytes old new = Comes (Step settings) (plan_with settings parties) old (record { source = source; target = target; bytes = bytes }) target new
+ComesSo settings parties source target bytes old new = ComesWell (Step settings) (plan_with settings parties) old (record { source = source; target = target; bytes = bytes }) target new
 
 unfoldable pub BeginsSo : SettingsValue → Parties → WorldEvent → World State → World State → Type 0
-BeginsSo settings parties what old new = Begins (Step settings) (plan_with settings parties) old what new
+BeginsSo settings parties what old new = BeginsWell (Step settings) (plan_with settings parties) old what new
 
 unfoldable pub HappensSo : SettingsValue → Parties → WorldEvent → World State → World State → Type 0
-HappensSo settings parties what old new = Happens (Step settings) (plan_with settings parties) old what new
+HappensSo settings parties what old new = HappensWell (Step settings) (plan_with settings parties) old what new
 
 unfoldable pub RunsSo : SettingsValue → Parties → List WorldEvent → World State → World State → Type 0
-RunsSo settings parties events old new = Runs (Step settings) (plan_with settings parties) old events new
+RunsSo settings parties events old new = RunsWell (Step settings) (plan_with settings parties) old events new

@@ -1,6 +1,7 @@
 //! The events of a generated world.
 
-ghost use Rattle.std.specs.Prelude.{◌≡◌, ◌<◌, ◌≤◌, ◌^◌, IfOk};
+ghost use Rattle.std.specs.Prelude.{◌≡◌, ◌==◌, ◌<◌, ◌≤◌, ◌%◌, ◌^◌, if◌then◌else◌, IfOk};
+ghost use Rattle.dots_world.specs.declared.event.WorldEvent.TheVariants as event;
 ghost use Rattle.dots_load.specs.Draws.{next, high};
 ghost use Rattle.world_play.specs.Playing.{IsEarly};
 ghost use Rattle.world_play.specs.Drawing.{raise, number_among, event_by};
@@ -45,7 +46,7 @@ impl Drawn {
         if self.first % 8 == 1 {
             return u64::from(self.third % 30);
         }
-        if self.first % 8 == 2 && self.third % 16 != 0 {
+        if self.first % 8 == 2 && self.third % 16 > 1 {
             return 1;
         }
         0
@@ -63,14 +64,24 @@ impl Drawn {
             let ask = ask_for(alloc, client, self.third)?;
             return Ok(WorldEvent::Ask { client, ask });
         }
-        if kind == 2 && self.third % 16 == 0 {
-            return Ok(WorldEvent::Restart);
+        if kind == 2 && self.third % 16 < 2 {
+            return Ok(self.restart());
         }
         if kind < 3 {
             return Ok(WorldEvent::Tick { at: time });
         }
         let packet = self.number_among(packets);
         Ok(WorldEvent::Deliver { packet })
+    }
+
+    /// A restart of the server, or of the gateway.
+    fn restart(self) -> WorldEvent
+        ensures { result ≡ (if self.third % 16 == 0 then event.Restart else event.GatewayRestart) }
+    {
+        if self.third % 16 == 0 {
+            return WorldEvent::Restart;
+        }
+        WorldEvent::GatewayRestart
     }
 
     /// The number of one of so many packets, or 0 where there are none.

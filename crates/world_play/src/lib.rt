@@ -18,6 +18,7 @@ mod passing;
 mod plan;
 mod played;
 mod playing;
+mod possible;
 mod report;
 mod run_plan;
 mod run_playing;

@@ -12,7 +12,7 @@ use crate::sending::{post, since};
 use dots_gateway::GatewayCore;
 use dots_host::{Got, MemoryHost, NoMemory, What};
 use dots_world::{Packet, Party};
-use gateway_agent::{Store, begin, restart, take};
+use gateway_agent::{Store, begin, restart, take_telling};
 use std::alloc::Global;
 
 /// The bytes of a disk: as many as any settings need. What isn't written takes no memory.
@@ -76,6 +76,10 @@ impl GatewaySide {
     pub fn let_go(self) {}
 
     /// The gateway takes a datagram of a peer. What it sends is put behind the packets.
+    ///
+    /// # Errors
+    ///
+    /// Only for want of memory: of this call, or of the gateway for what it was to send.
     pub fn pass(
         &mut self,
         parties: &Parties,
@@ -101,17 +105,16 @@ impl GatewaySide {
             at,
         };
         let upstream = parties.upstream();
-        match take(
+        let Ok(true) = take_telling(
             &mut self.core,
             &mut self.store,
             &mut self.host,
             upstream,
             &got,
             bytes,
-        ) {
-            Ok(()) => {}
-            Err(_) => return Err(NoMemory),
-        }
+        ) else {
+            return Err(NoMemory);
+        };
         if !self.host.whole() {
             return Err(NoMemory);
         }

@@ -6,7 +6,7 @@ ghost use Rattle.dots_settings.specs.Settings.{SettingsValue};
 ghost use Rattle.dots_client.specs.Client.{ClientValue};
 ghost use Rattle.dots_machine.specs.Machine.{State};
 ghost use Rattle.dots_world.specs.Worlds.{World};
-ghost use Rattle.world_play.specs.Playing.{Shows};
+ghost use Rattle.world_play.specs.Playing.{PlaysAs};
 ghost use Rattle.world_play.specs.Rows.{rows_of};
 
 use crate::parties::Parties;
@@ -82,7 +82,7 @@ impl Played {
 
     /// How many rows of mitigations filter at the server. There is no memory for more than can be counted.
     pub fn rows(&self) -> Result<usize, NoMemory>
-        ensures { IfOk result (λ rows. (settings : SettingsValue) (world : World State) → Shows settings self.now world → rows ≡ rows_of world.server) }
+        ensures { IfOk result (λ rows. (settings : SettingsValue) (world : World State) → PlaysAs settings self.now world → rows ≡ rows_of world.server) }
     {
         count_rows(self.server.server.registry().filters())
     }

@@ -5,7 +5,8 @@ ghost use Rattle.std.specs.List.{AllByRecursion, range_with_len};
 ghost use Rattle.dots_settings.specs.Settings.{SettingsValue};
 ghost use Rattle.dots_machine.specs.Answering.{AreBytes};
 ghost use Rattle.dots_machine.specs.Machine.{State, Step, begun_from};
-ghost use Rattle.dots_world.specs.Worlds.{World, begun, AsksFor, Serves, PassesOn, ReceivesPacket, AllHandOut, Runs};
+ghost use Rattle.dots_world.specs.Worlds.{World, begun, AsksFor, Serves, AllHandOut};
+ghost use Rattle.dots_world.specs.OneWorld.{StepsWell, PassesOnWell, ReceivesWell, RunsWell};
 ghost use Rattle.dots_world.specs.declared.party.Party.TheVariants.{Gateway as the_gateway, Server as the_server};
 ghost use Rattle.dots_host.specs.declared.event.Event.TheVariants as incoming;
 ghost use Rattle.dots_world.specs.declared.event.WorldEvent.TheVariants as event;
@@ -13,7 +14,7 @@ ghost use Rattle.dots_host.specs.Acts.{IsWithin, event_of};
 ghost use Rattle.dots_server.specs.Turning.{IsServed};
 ghost use Rattle.world_play.specs.Packets.{Reaches};
 ghost use Rattle.world_play.specs.Parties.{plan_of, plan_with};
-ghost use Rattle.world_play.specs.Playing.{Shows, IsSound, IsEarly, IsTaken, Goes, ComesToServer, ComesToGateway, timed, ComesSo, BeginsSo, HappensSo, RunsSo};
+ghost use Rattle.world_play.specs.Playing.{PlaysAs, IsSound, IsEarly, IsTaken, Goes, ComesToServer, ComesToGateway, timed, ComesSo, BeginsSo, HappensSo, RunsSo};
 
 use crate::clients::{ask_at, begin_clients, hand_all_out, receive_at};
 use crate::parties::Parties;
@@ -29,7 +30,7 @@ use std::alloc::Global;
 
 /// Plays the events of a world, one after the other, from its beginning on. Times are in seconds, below 2^48.
 ///
-/// What it answers shows a world that the plan and the events lead to, whatever is lost, repeated and reordered by them, and whenever server
+/// What it answers plays a world that the plan and the events lead to, whatever is lost, repeated and reordered by them, and whenever server
 /// and gateway restart.
 ///
 /// # Errors
@@ -39,7 +40,7 @@ pub fn play(alloc: Global, plan: WorldPlan, events: &[WorldEvent]) -> Result<Pla
     requires few { length plan.clients < 2 ^ 32 }
     requires early { AllByRecursion IsEarly events.now }
     ensures runs { IfOk result (λ played. (world : World State)
-        × Runs (Step plan.settings) (plan_of plan) (begun (plan_of plan) (begun_from plan.settings [])) events.now world × Shows plan.settings played world) }
+        × RunsWell (Step plan.settings) (plan_of plan) (begun (plan_of plan) (begun_from plan.settings [])) events.now world × PlaysAs plan.settings played world) }
 {
     let played = Played::begin(alloc, plan)?;
     played.run(events)
@@ -71,7 +72,7 @@ impl Played {
         requires few { length plan.clients < 2 ^ 32 }
         ensures sound { IfOk result IsSound }
         ensures plan { IfOk result (λ played. plan_with plan.settings played.parties ≡ plan_of plan) }
-        ensures shows { IfOk result (λ played. Shows plan.settings played (begun (plan_of plan) (begun_from plan.settings []))) }
+        ensures plays { IfOk result (λ played. PlaysAs plan.settings played (begun (plan_of plan) (begun_from plan.settings []))) }
     {
         let WorldPlan {
             settings,
@@ -168,7 +169,7 @@ impl Played {
         requires sound { IsSound self }
         ensures sound { IfOk result IsSound }
         ensures parties { IfOk result (λ played. played.parties ≡ self.parties) }
-        ensures begins { IfOk result (λ played. (settings : SettingsValue) → Goes settings (λ old new. Serves (Step settings) (plan_with settings self.parties) old incoming.Restart new) self played) }
+        ensures begins { IfOk result (λ played. (settings : SettingsValue) → Goes settings (λ old new. Serves (StepsWell (Step settings)) (plan_with settings self.parties) old incoming.Restart new) self played) }
     {
         let Played {
             alloc,
@@ -201,7 +202,7 @@ impl Played {
         requires sound { IsSound self }
         ensures sound { IfOk result IsSound }
         ensures parties { IfOk result (λ played. played.parties ≡ self.parties) }
-        ensures begins { IfOk result (λ played. (settings : SettingsValue) → Goes settings (λ old new. PassesOn (plan_with settings self.parties) old incoming.Restart new) self played) }
+        ensures begins { IfOk result (λ played. (settings : SettingsValue) → Goes settings (λ old new. PassesOnWell (plan_with settings self.parties) old incoming.Restart new) self played) }
     {
         let Played {
             alloc,
@@ -264,7 +265,7 @@ impl Played {
         requires early { at < 2 ^ 48 }
         ensures sound { OnOk result (IsSound self.new) }
         ensures parties { self.new.parties ≡ self.old.parties }
-        ensures begins { OnOk result ((settings : SettingsValue) → Goes settings (λ old new. Serves (Step settings) (plan_with settings self.old.parties) (timed at old) incoming.Tick new) self.old self.new) }
+        ensures begins { OnOk result ((settings : SettingsValue) → Goes settings (λ old new. Serves (StepsWell (Step settings)) (plan_with settings self.old.parties) (timed at old) incoming.Tick new) self.old self.new) }
     {
         self.time = self.time.max(at);
         self.serve(What::Tick, &[])
@@ -326,7 +327,7 @@ impl Played {
         requires reaches { Reaches self.old.parties source (Some the_server) }
         ensures sound { OnOk result (IsSound self.new) }
         ensures parties { self.new.parties ≡ self.old.parties }
-        ensures comes { OnOk result ((settings : SettingsValue) → Goes settings (λ old new. ComesToServer (Step settings) (plan_with settings self.old.parties) old source bytes.now new) self.old self.new) }
+        ensures comes { OnOk result ((settings : SettingsValue) → Goes settings (λ old new. ComesToServer (StepsWell (Step settings)) (plan_with settings self.old.parties) old source bytes.now new) self.old self.new) }
     {
         let Some(from) = self.parties.for_server(source) else {
             unreachable!();
@@ -355,7 +356,7 @@ impl Played {
         requires sound { IsSound self.old }
         ensures sound { OnOk result (IsSound self.new) }
         ensures parties { self.new.parties ≡ self.old.parties }
-        ensures passes { OnOk result ((settings : SettingsValue) → Goes settings (λ old new. PassesOn (plan_with settings self.old.parties) old (incoming.Datagram from bytes.now) new) self.old self.new) }
+        ensures passes { OnOk result ((settings : SettingsValue) → Goes settings (λ old new. PassesOnWell (plan_with settings self.old.parties) old (incoming.Datagram from bytes.now) new) self.old self.new) }
     {
         self.gateway
             .pass(&self.parties, from, bytes, self.time, &mut self.packets)
@@ -368,7 +369,7 @@ impl Played {
         requires served { IsServed what }
         ensures sound { OnOk result (IsSound self.new) }
         ensures parties { self.new.parties ≡ self.old.parties }
-        ensures serves { OnOk result ((settings : SettingsValue) → Goes settings (λ old new. Serves (Step settings) (plan_with settings self.old.parties) old (event_of what room.now) new) self.old self.new) }
+        ensures serves { OnOk result ((settings : SettingsValue) → Goes settings (λ old new. Serves (StepsWell (Step settings)) (plan_with settings self.old.parties) old (event_of what room.now) new) self.old self.new) }
     {
         self.server.serve(
             self.alloc,
@@ -385,7 +386,7 @@ impl Played {
         requires there { place < length self.old.parties.clients }
         ensures sound { OnOk result (IsSound self.new) }
         ensures parties { self.new.parties ≡ self.old.parties }
-        ensures receives { OnOk result ((settings : SettingsValue) → Goes settings (λ old new. ReceivesPacket (plan_with settings self.old.parties) old place bytes.now new) self.old self.new) }
+        ensures receives { OnOk result ((settings : SettingsValue) → Goes settings (λ old new. ReceivesWell (plan_with settings self.old.parties) old place bytes.now new) self.old self.new) }
     {
         let behind = self.parties.clients.items()[place as usize].behind;
         receive_at(

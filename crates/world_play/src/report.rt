@@ -4,7 +4,7 @@ ghost use Rattle.std.specs.Prelude.{◌≡◌, string_bytes, IfOk};
 ghost use Rattle.dots_settings.specs.Settings.{SettingsValue};
 ghost use Rattle.dots_machine.specs.Machine.{State};
 ghost use Rattle.dots_world.specs.Worlds.{World};
-ghost use Rattle.world_play.specs.Playing.{Shows};
+ghost use Rattle.world_play.specs.Playing.{PlaysAs};
 ghost use Rattle.world_play.specs.Report.{granted_to, text_of, world_text};
 
 use crate::played::Played;
@@ -14,7 +14,7 @@ use std::alloc::Global;
 
 /// The report of a world that was played, in three lines.
 pub fn report_of(alloc: Global, played: &Played) -> Result<String, NoMemory>
-    ensures { IfOk result (λ text. (settings : SettingsValue) (world : World State) → Shows settings played.now world → string_bytes text ≡ world_text world) }
+    ensures { IfOk result (λ text. (settings : SettingsValue) (world : World State) → PlaysAs settings played.now world → string_bytes text ≡ world_text world) }
 {
     let packets = played.packets().len();
     let granted = granted_to(played.clients())?;

@@ -7,6 +7,7 @@ ghost use Rattle.world_play.specs.Parties.{plan_of};
 ghost use Rattle.world_play.specs.Plans.{server_text, gateway_text, clients, IsGenerated};
 
 use crate::plan::{ClientList, WorldPlan};
+use crate::possible::can_be;
 use dots_host::MemorySource;
 use dots_lists::{Name, NoMemory};
 use dots_settings::{Settings, read_settings};
@@ -29,17 +30,25 @@ upstream 9\n";
 /// The peer that the gateway is for the server.
 const GATEWAY: u32 = 3;
 
-/// The plan of each generated world.
+/// The plan of each generated world. One that can't be is taken for want of memory.
 pub fn world_plan(alloc: Global) -> Result<WorldPlan, NoMemory>
     ensures generated { IfOk result (λ plan. IsGenerated (plan_of plan)) }
     ensures few { IfOk result (λ plan. length plan.clients < 2 ^ 32) }
 {
-    Ok(WorldPlan {
-        settings: server_settings(alloc)?,
-        gateway_settings: gateway_settings(alloc)?,
+    let settings = server_settings(alloc)?;
+    let gateway_settings = gateway_settings(alloc)?;
+    let clients = clients(alloc)?;
+    let plan = WorldPlan {
+        settings,
+        gateway_settings,
         gateway: GATEWAY,
-        clients: clients(alloc)?,
-    })
+        clients,
+    };
+    let can = can_be(alloc, &plan)?;
+    if !can {
+        return Err(NoMemory);
+    }
+    Ok(plan)
 }
 
 fn server_settings(alloc: Global) -> Result<Settings, NoMemory>

@@ -4,7 +4,7 @@ ghost use Rattle.std.specs.Prelude.{◌≡◌, ◌<◌, ◌^◌, ℕ, length, If
 ghost use Rattle.dots_settings.specs.Settings.{SettingsValue};
 ghost use Rattle.world_play.specs.Playing.{IsSound, Goes, HappensSo};
 ghost use Rattle.world_play.specs.Drawing.{event_by};
-ghost use Rattle.world_play.specs.Running.{ShowsDrawn};
+ghost use Rattle.world_play.specs.Running.{PlaysDrawn};
 
 use crate::drawing::Drawn;
 use crate::played::Played;
@@ -21,7 +21,7 @@ const FIRST_TIME: u64 = 1000;
 
 /// Plays the events of a seed.
 pub fn play_drawn(alloc: Global, seed: u64) -> Result<Played, NoMemory>
-    ensures { IfOk result (λ played. ShowsDrawn seed 2000 played) }
+    ensures { IfOk result (λ played. PlaysDrawn seed 2000 played) }
 {
     let mut played = begin(alloc)?;
     let mut draws = Draws::new(seed);
@@ -40,7 +40,7 @@ pub fn play_drawn(alloc: Global, seed: u64) -> Result<Played, NoMemory>
 /// A generated world before its first event.
 fn begin(alloc: Global) -> Result<Played, NoMemory>
     ensures sound { IfOk result IsSound }
-    ensures shows { (seed : ℕ) → IfOk result (λ played. ShowsDrawn seed 0 played) }
+    ensures plays { (seed : ℕ) → IfOk result (λ played. PlaysDrawn seed 0 played) }
 {
     let plan = world_plan(alloc)?;
     Played::begin(alloc, plan)

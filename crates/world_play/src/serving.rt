@@ -12,6 +12,7 @@ use crate::parties::Parties;
 use crate::passing::DISK_SIZE;
 use crate::sending::{post, since, tell};
 use dots_host::{Got, MemoryHost, NoMemory, Tape, What};
+use dots_load::is_served;
 use dots_server::Server;
 use dots_settings::Settings;
 use dots_world::{Packet, Party};
@@ -76,6 +77,10 @@ impl ServerSide {
     }
 
     /// The server takes an event, its bytes in the room. What it sends is put behind the packets.
+    ///
+    /// # Errors
+    ///
+    /// Only for want of memory: of this call, or of the server, which tells it by 5.00.
     pub fn serve(
         &mut self,
         alloc: Global,
@@ -108,6 +113,9 @@ impl ServerSide {
             return Err(NoMemory);
         }
         let calls = since(self.host.acts(), before);
+        if !is_served(calls) {
+            return Err(NoMemory);
+        }
         tell(alloc, calls, &mut self.acts)?;
         post(parties, Party::Server, calls, packets)
     }

@@ -1,4 +1,4 @@
-use Rattle.std.proofs.Common.{refl, ap}
+use Rattle.std.proofs.Common.{refl, ap, sym, ◌∙◌}
 use Rattle.dots_world.specs.Worlds.{answers_to}
 use Rattle.world_play.proofs.Handed.{heard_quiet, there_at}
 use Rattle.world_play.proofs.clients.receive_at.Goals as goal
@@ -10,6 +10,7 @@ returns-in-Granted-clause-received c = record {
   said = c.got.result;
   after = c.got.new.self;
   receives = c.got.ensures;
+  enough = λ none. let no = sym c.in-Granted.is ∙ none in cc no;
   leaves = refl;
   posted = heard_quiet c.args.place c.args.behind c.got.result c.args.packets.now.items (ap answers_to c.in-Granted.is);
 }
@@ -21,6 +22,7 @@ returns-in-Withdrawn-clause-received c = record {
   said = c.got.result;
   after = c.got.new.self;
   receives = c.got.ensures;
+  enough = λ none. let no = sym c.in-Withdrawn.is ∙ none in cc no;
   leaves = refl;
   posted = heard_quiet c.args.place c.args.behind c.got.result c.args.packets.now.items (ap answers_to c.in-Withdrawn.is);
 }
@@ -32,6 +34,7 @@ returns-in-Refused-clause-received c = record {
   said = c.got.result;
   after = c.got.new.self;
   receives = c.got.ensures;
+  enough = λ none. let no = sym c.in-Refused.is ∙ none in cc no;
   leaves = refl;
   posted = heard_quiet c.args.place c.args.behind c.got.result c.args.packets.now.items (ap answers_to c.in-Refused.is);
 }
@@ -43,6 +46,7 @@ returns-in-Nothing-clause-received c = record {
   said = c.got.result;
   after = c.got.new.self;
   receives = c.got.ensures;
+  enough = λ none. let no = sym c.in-Nothing.is ∙ none in cc no;
   leaves = refl;
   posted = heard_quiet c.args.place c.args.behind c.got.result c.args.packets.now.items (ap answers_to c.in-Nothing.is);
 }

@@ -1,7 +1,7 @@
 use Rattle.std.proofs.Common.{◌∙◌, ◌+◌, ℕ, refl, sym, ap, arith}
 use Rattle.dots_load.specs.Draws.{next}
 use Rattle.world_play.proofs.Events.{three_further, drawn_is, time_more, next_time}
-use Rattle.world_play.proofs.RunLeading.{shows_more}
+use Rattle.world_play.proofs.RunLeading.{plays_more}
 use Rattle.world_play.proofs.run_playing.play_drawn.Goals as goal
 
 pub loop-k-init : goal.loop-k-init
@@ -10,7 +10,7 @@ loop-k-init c = record {
   number = c.new-draws.ensures;
   time = refl;
   early = omega arith;
-  shows = c.in_ok-played.ensures.shows c.args.seed;
+  plays = c.in_ok-played.ensures.plays c.args.seed;
 }
 
 pub loop-k-preserved : goal.loop-k-preserved
@@ -25,5 +25,5 @@ loop-k-preserved c =
       number = c.next-drawn.ensures.number ∙ ap (λ (n : ℕ). next (next (next n))) was.number ∙ sym (three_further seed k);
       time = next_time seed k (c.loop-k.time + c.raise-time.result) later;
       early = omega (arith, was.early, c.raise-time.ensures.small);
-      shows = shows_more seed k c.next-drawn.result (c.loop-k.time + c.raise-time.result) c.loop-k.played c.in-Ok.next was.shows drawn later c.in-Ok.ensures.parties c.in-Ok.ensures.happens;
+      plays = plays_more seed k c.next-drawn.result (c.loop-k.time + c.raise-time.result) c.loop-k.played c.in-Ok.next was.plays drawn later c.in-Ok.ensures.parties c.in-Ok.ensures.happens;
     }

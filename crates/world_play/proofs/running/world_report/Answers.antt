@@ -4,7 +4,7 @@ use Rattle.std.proofs.lemmas.Result.{IfOk-weaker}
 use Rattle.dots_settings.specs.Settings.{SettingsValue}
 use Rattle.dots_machine.specs.Machine.{State}
 use Rattle.dots_world.specs.Worlds.{World}
-use Rattle.world_play.specs.Playing.{Shows}
+use Rattle.world_play.specs.Playing.{PlaysAs}
 use Rattle.world_play.specs.Report.{world_text, WorldReported}
 use Rattle.world_play.proofs.running.world_report.Goals as goal
 
@@ -12,7 +12,7 @@ pub returns : goal.returns
 returns c =
     let played = c.in_ok-played.played in
     let shown = c.in_ok-played.ensures in
-    IfOk-weaker c.report_of-report.result (λ text. (settings : SettingsValue) (world : World State) → Shows settings played world → string_bytes text ≡ world_text world)
+    IfOk-weaker c.report_of-report.result (λ text. (settings : SettingsValue) (world : World State) → PlaysAs settings played world → string_bytes text ≡ world_text world)
     (λ text. WorldReported c.args.seed (string_bytes text))
     (λ text is. record {
       plan = shown.plan;
@@ -21,6 +21,6 @@ returns c =
       count = shown.count_is;
       world = shown.world;
       runs = shown.runs;
-      text_is = is shown.plan.settings shown.world shown.shows;
+      text_is = is shown.plan.settings shown.world shown.plays;
     })
     c.report_of-report.ensures

@@ -16,8 +16,8 @@ returns-clause-sound c = record {
   packets = subst (AllByRecursion (IsRoutable (record { gateway_settings = c.args.plan.gateway_settings; gateway = c.args.plan.gateway; clients = c.args.plan.clients }))) (sym c.new.ensures.items) tt;
 }
 
-pub returns-clause-shows : goal.returns-clause-shows
-returns-clause-shows c = record {
+pub returns-clause-plays : goal.returns-clause-plays
+returns-clause-plays c = record {
   time = refl;
   server = c.in_ok-server.ensures.is_in;
   gateway = c.in_ok-gateway.ensures.is_in;

@@ -6,7 +6,8 @@ use Rattle.dots_settings.specs.Settings.{SettingsValue}
 use Rattle.dots_host.specs.declared.event.Event.TheVariants as incoming
 use Rattle.dots_host.specs.Acts.{event_of}
 use Rattle.dots_machine.specs.Machine.{State, Step}
-use Rattle.dots_world.specs.Worlds.{World, Serves, PassesOn, AsksFor, ReceivesPacket, AllHandOut}
+use Rattle.dots_world.specs.Worlds.{Serves}
+use Rattle.dots_world.specs.OneWorld.{StepsWell, PassesOnWell}
 use Rattle.world_play.specs.Parties.{plan_with}
 use Rattle.world_play.specs.Playing.{PlayedValue, Goes, IsSound, timed}
 use Rattle.world_play.proofs.Leading as leading
@@ -33,14 +34,14 @@ take-requires c =
 
 pub returns-in-Restart-clause-begins : goal.returns-in-Restart-clause-begins
 returns-in-Restart-clause-begins c =
-    IfOk-weaker c.restart_server.result (λ (played : PlayedValue). (settings : SettingsValue) → Goes settings (λ old new. Serves (Step settings) (plan_with settings c.args.self.parties) old incoming.Restart new) c.args.self played) (λ (played : PlayedValue). (settings : SettingsValue) → Goes settings (BeginsSo settings c.args.self.parties c.args.event.now) c.args.self played)
+    IfOk-weaker c.restart_server.result (λ (played : PlayedValue). (settings : SettingsValue) → Goes settings (λ old new. Serves (StepsWell (Step settings)) (plan_with settings c.args.self.parties) old incoming.Restart new) c.args.self played) (λ (played : PlayedValue). (settings : SettingsValue) → Goes settings (BeginsSo settings c.args.self.parties c.args.event.now) c.args.self played)
     (λ played done settings. subst (λ given. Goes settings (BeginsSo settings c.args.self.parties given) c.args.self played) (sym c.in-Restart.is)
-    (leading.goes_weaker settings (λ old new. Serves (Step settings) (plan_with settings c.args.self.parties) old incoming.Restart new) (BeginsSo settings c.args.self.parties what_comes.Restart) c.args.self played (leading.begins_restart settings c.args.self.parties) (done settings)))
+    (leading.goes_weaker settings (λ old new. Serves (StepsWell (Step settings)) (plan_with settings c.args.self.parties) old incoming.Restart new) (BeginsSo settings c.args.self.parties what_comes.Restart) c.args.self played (leading.begins_restart settings c.args.self.parties) (done settings)))
     c.restart_server.ensures.begins
 
 pub returns-in-GatewayRestart-clause-begins : goal.returns-in-GatewayRestart-clause-begins
 returns-in-GatewayRestart-clause-begins c =
-    IfOk-weaker c.restart_gateway.result (λ (played : PlayedValue). (settings : SettingsValue) → Goes settings (λ old new. PassesOn (plan_with settings c.args.self.parties) old incoming.Restart new) c.args.self played) (λ (played : PlayedValue). (settings : SettingsValue) → Goes settings (BeginsSo settings c.args.self.parties c.args.event.now) c.args.self played)
+    IfOk-weaker c.restart_gateway.result (λ (played : PlayedValue). (settings : SettingsValue) → Goes settings (λ old new. PassesOnWell (plan_with settings c.args.self.parties) old incoming.Restart new) c.args.self played) (λ (played : PlayedValue). (settings : SettingsValue) → Goes settings (BeginsSo settings c.args.self.parties c.args.event.now) c.args.self played)
     (λ played done settings. subst (λ given. Goes settings (BeginsSo settings c.args.self.parties given) c.args.self played) (sym c.in-GatewayRestart.is)
-    (leading.goes_weaker settings (λ old new. PassesOn (plan_with settings c.args.self.parties) old incoming.Restart new) (BeginsSo settings c.args.self.parties what_comes.GatewayRestart) c.args.self played (leading.begins_reopen settings c.args.self.parties) (done settings)))
+    (leading.goes_weaker settings (λ old new. PassesOnWell (plan_with settings c.args.self.parties) old incoming.Restart new) (BeginsSo settings c.args.self.parties what_comes.GatewayRestart) c.args.self played (leading.begins_reopen settings c.args.self.parties) (done settings)))
     c.restart_gateway.ensures.begins

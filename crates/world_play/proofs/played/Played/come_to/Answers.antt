@@ -6,7 +6,7 @@ use Rattle.dots_settings.specs.Settings.{SettingsValue}
 use Rattle.dots_host.specs.declared.event.Event.TheVariants as incoming
 use Rattle.dots_host.specs.Acts.{event_of}
 use Rattle.dots_machine.specs.Machine.{State, Step}
-use Rattle.dots_world.specs.Worlds.{World, Serves, PassesOn, AsksFor, ReceivesPacket, AllHandOut}
+use Rattle.dots_world.specs.OneWorld.{StepsWell, ReceivesWell}
 use Rattle.world_play.specs.Parties.{plan_with}
 use Rattle.world_play.specs.Playing.{PlayedValue, Goes, IsSound, timed}
 use Rattle.world_play.proofs.Leading as leading
@@ -29,7 +29,7 @@ pub returns-in-Server-clause-comes : goal.returns-in-Server-clause-comes
 returns-in-Server-clause-comes c =
     on_ok_weaker c.to_server.result
     (λ done settings. subst (λ given. Goes settings (ComesSo settings c.args.self.now.parties c.args.source (Some given) c.args.bytes.now) c.args.self.now c.to_server.new.self) (sym c.in-Server.is)
-    (leading.goes_weaker settings (λ old new. ComesToServer (Step settings) (plan_with settings c.args.self.now.parties) old c.args.source c.args.bytes.now new) (ComesSo settings c.args.self.now.parties c.args.source (Some the_server) c.args.bytes.now) c.args.self.now c.to_server.new.self (leading.comes_to_server settings c.args.self.now.parties c.args.source c.args.bytes.now) (done settings)))
+    (leading.goes_weaker settings (λ old new. ComesToServer (StepsWell (Step settings)) (plan_with settings c.args.self.now.parties) old c.args.source c.args.bytes.now new) (ComesSo settings c.args.self.now.parties c.args.source (Some the_server) c.args.bytes.now) c.args.self.now c.to_server.new.self (leading.comes_to_server settings c.args.self.now.parties c.args.source c.args.bytes.now) (done settings)))
     c.to_server.ensures.comes
 
 pub returns-in-Gateway-clause-comes : goal.returns-in-Gateway-clause-comes
@@ -43,5 +43,5 @@ pub returns-in-Client-clause-comes : goal.returns-in-Client-clause-comes
 returns-in-Client-clause-comes c =
     on_ok_weaker c.to_client.result
     (λ done settings. subst (λ given. Goes settings (ComesSo settings c.args.self.now.parties c.args.source (Some given) c.args.bytes.now) c.args.self.now c.to_client.new.self) (sym c.in-Client.is)
-    (leading.goes_weaker settings (λ old new. ReceivesPacket {S = State} (plan_with settings c.args.self.now.parties) old c.in-Client.place c.args.bytes.now new) (ComesSo settings c.args.self.now.parties c.args.source (Some (a_client c.in-Client.place)) c.args.bytes.now) c.args.self.now c.to_client.new.self (leading.comes_to_client settings c.args.self.now.parties c.args.source c.in-Client.place c.args.bytes.now) (done settings)))
+    (leading.goes_weaker settings (λ old new. ReceivesWell {S = State} (plan_with settings c.args.self.now.parties) old c.in-Client.place c.args.bytes.now new) (ComesSo settings c.args.self.now.parties c.args.source (Some (a_client c.in-Client.place)) c.args.bytes.now) c.args.self.now c.to_client.new.self (leading.comes_to_client settings c.args.self.now.parties c.args.source c.in-Client.place c.args.bytes.now) (done settings)))
     c.to_client.ensures.receives

@@ -6,7 +6,7 @@ use Rattle.dots_settings.specs.Settings.{SettingsValue}
 use Rattle.dots_host.specs.declared.event.Event.TheVariants as incoming
 use Rattle.dots_host.specs.Acts.{event_of}
 use Rattle.dots_machine.specs.Machine.{State, Step}
-use Rattle.dots_world.specs.Worlds.{World, Serves, PassesOn, AsksFor, ReceivesPacket, AllHandOut}
+use Rattle.dots_world.specs.OneWorld.{PassesOnWell}
 use Rattle.world_play.specs.Parties.{plan_with}
 use Rattle.world_play.specs.Playing.{PlayedValue, Goes, IsSound, timed}
 use Rattle.world_play.proofs.Leading as leading
@@ -16,5 +16,5 @@ pub returns-clause-passes : goal.returns-clause-passes
 returns-clause-passes c =
     let inside : PlayedValue = record { parties = c.self.inside.parties; time = c.self.inside.time; server = c.self.inside.server; gateway = c.self.inside.gateway; clients = c.self.inside.clients.items; packets = c.self.inside.packets.items } in
     let now : PlayedValue = record { parties = c.self.inside.parties; time = c.self.inside.time; server = c.self.inside.server; gateway = c.pass.new.self; clients = c.self.inside.clients.items; packets = c.pass.new.packets.items } in
-    subst (λ (was : PlayedValue). OnOk c.pass.result ((settings : SettingsValue) → Goes settings (λ old new. PassesOn (plan_with settings was.parties) old (incoming.Datagram c.args.from c.args.bytes.now) new) was now)) c.self.view_is
+    subst (λ (was : PlayedValue). OnOk c.pass.result ((settings : SettingsValue) → Goes settings (λ old new. PassesOnWell (plan_with settings was.parties) old (incoming.Datagram c.args.from c.args.bytes.now) new) was now)) c.self.view_is
     (on_ok_weaker c.pass.result (λ done settings. leading.passes_on settings inside c.pass.new.self (incoming.Datagram c.args.from c.args.bytes.now) c.pass.new.packets.items done) c.pass.ensures.passed)

@@ -6,7 +6,8 @@ use Rattle.dots_settings.specs.Settings.{SettingsValue}
 use Rattle.dots_host.specs.declared.event.Event.TheVariants as incoming
 use Rattle.dots_host.specs.Acts.{event_of}
 use Rattle.dots_machine.specs.Machine.{State, Step}
-use Rattle.dots_world.specs.Worlds.{World, Serves, PassesOn, AsksFor, ReceivesPacket, AllHandOut}
+use Rattle.dots_world.specs.Worlds.{Serves}
+use Rattle.dots_world.specs.OneWorld.{StepsWell}
 use Rattle.world_play.specs.Parties.{plan_with}
 use Rattle.world_play.specs.Playing.{PlayedValue, Goes, IsSound, timed}
 use Rattle.world_play.proofs.Leading as leading
@@ -36,5 +37,5 @@ pub returns-in-Ok-clause-begins : goal.returns-in-Ok-clause-begins
 returns-in-Ok-clause-begins c =
     let inside : PlayedValue = record { parties = c.self.inside.parties; time = c.self.inside.time; server = c.self.inside.server; gateway = c.self.inside.gateway; clients = c.self.inside.clients.items; packets = c.self.inside.packets.items } in
     let now : PlayedValue = record { parties = c.self.inside.parties; time = c.self.inside.time; server = c.in-Ok.server; gateway = c.self.inside.gateway; clients = c.self.inside.clients.items; packets = c.self.inside.packets.items } in
-    subst (λ (was : PlayedValue). (settings : SettingsValue) → Goes settings (λ old new. Serves (Step settings) (plan_with settings was.parties) old incoming.Restart new) was now) c.self.view_is
+    subst (λ (was : PlayedValue). (settings : SettingsValue) → Goes settings (λ old new. Serves (StepsWell (Step settings)) (plan_with settings was.parties) old incoming.Restart new) was now) c.self.view_is
     (λ settings. leading.restarts settings inside c.in-Ok.server (c.in-Ok.ensures.restarted settings))

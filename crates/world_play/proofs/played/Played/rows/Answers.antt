@@ -8,16 +8,16 @@ use Rattle.dots_registry.specs.RegistryValues.{RegistryValue}
 use Rattle.dots_registry.specs.RegistryValues as registry
 use Rattle.dots_machine.specs.Machine.{State}
 use Rattle.dots_world.specs.Worlds.{World}
-use Rattle.world_play.specs.Playing.{PlayedValue, Shows}
+use Rattle.world_play.specs.Playing.{PlayedValue, PlaysAs}
 use Rattle.world_play.specs.Rows.{rows_of}
 use Rattle.world_play.proofs.played.Played.rows.Goals as goal
 
 pub returns : goal.returns
 returns c =
     let inside : PlayedValue = record { parties = c.self.inside.parties; time = c.self.inside.time; server = c.self.inside.server; gateway = c.self.inside.gateway; clients = c.self.inside.clients.items; packets = c.self.inside.packets.items } in
-    IfOk-weaker c.count_rows.result (λ (rows : ℕ). rows ≡ length (active_rows c.filters.result.now.scrubs)) (λ (rows : ℕ). (settings : SettingsValue) (world : World State) → Shows settings c.args.self.now world → rows ≡ rows_of world.server)
-    (λ rows is settings world shows.
-    let so : Shows settings inside world = subst (λ (was : PlayedValue). Shows settings was world) (sym c.self.view_is) shows in
+    IfOk-weaker c.count_rows.result (λ (rows : ℕ). rows ≡ length (active_rows c.filters.result.now.scrubs)) (λ (rows : ℕ). (settings : SettingsValue) (world : World State) → PlaysAs settings c.args.self.now world → rows ≡ rows_of world.server)
+    (λ rows is settings world plays.
+    let so : PlaysAs settings inside world = subst (λ (was : PlayedValue). PlaysAs settings was world) (sym c.self.view_is) plays in
     let stands = so.server.kept.represents.represents in
     let history = world.server.history in
     let listed =

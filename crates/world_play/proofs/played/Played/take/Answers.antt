@@ -6,7 +6,8 @@ use Rattle.dots_settings.specs.Settings.{SettingsValue}
 use Rattle.dots_host.specs.declared.event.Event.TheVariants as incoming
 use Rattle.dots_host.specs.Acts.{event_of}
 use Rattle.dots_machine.specs.Machine.{State, Step}
-use Rattle.dots_world.specs.Worlds.{World, Serves, PassesOn, AsksFor, ReceivesPacket, AllHandOut}
+use Rattle.dots_world.specs.Worlds.{Serves, AsksFor}
+use Rattle.dots_world.specs.OneWorld.{StepsWell}
 use Rattle.world_play.specs.Parties.{plan_with}
 use Rattle.world_play.specs.Playing.{PlayedValue, Goes, IsSound, timed}
 use Rattle.world_play.proofs.Leading as leading
@@ -36,5 +37,5 @@ pub returns-in-Tick-clause-begins : goal.returns-in-Tick-clause-begins
 returns-in-Tick-clause-begins c =
     on_ok_weaker c.tick.result
     (λ done settings. subst (λ given. Goes settings (BeginsSo settings c.args.self.now.parties given) c.args.self.now c.tick.new.self) (sym c.in-Tick.is)
-    (leading.goes_weaker settings (λ old new. Serves (Step settings) (plan_with settings c.args.self.now.parties) (timed c.in-Tick.at old) incoming.Tick new) (BeginsSo settings c.args.self.now.parties (what_comes.Tick c.in-Tick.at)) c.args.self.now c.tick.new.self (leading.begins_tick settings c.args.self.now.parties c.in-Tick.at) (done settings)))
+    (leading.goes_weaker settings (λ old new. Serves (StepsWell (Step settings)) (plan_with settings c.args.self.now.parties) (timed c.in-Tick.at old) incoming.Tick new) (BeginsSo settings c.args.self.now.parties (what_comes.Tick c.in-Tick.at)) c.args.self.now c.tick.new.self (leading.begins_tick settings c.args.self.now.parties c.in-Tick.at) (done settings)))
     c.tick.ensures.begins

@@ -6,7 +6,7 @@ use Rattle.dots_settings.specs.Settings.{SettingsValue}
 use Rattle.dots_host.specs.declared.event.Event.TheVariants as incoming
 use Rattle.dots_host.specs.Acts.{event_of}
 use Rattle.dots_machine.specs.Machine.{State, Step}
-use Rattle.dots_world.specs.Worlds.{World, Serves, PassesOn, AsksFor, ReceivesPacket, AllHandOut}
+use Rattle.dots_world.specs.OneWorld.{ReceivesWell}
 use Rattle.world_play.specs.Parties.{plan_with}
 use Rattle.world_play.specs.Playing.{PlayedValue, Goes, IsSound, timed}
 use Rattle.world_play.proofs.Leading as leading
@@ -35,5 +35,5 @@ returns-clause-receives c =
     (there_at c.items.result.now c.args.place item (subst (λ (clients : List PlanClient). c.args.place < length clients) (sym c.items.ensures) less) c.index-items-place.is) in
     let inside : PlayedValue = record { parties = c.self.inside.parties; time = c.self.inside.time; server = c.self.inside.server; gateway = c.self.inside.gateway; clients = c.self.inside.clients.items; packets = c.self.inside.packets.items } in
     let now : PlayedValue = record { parties = c.self.inside.parties; time = c.self.inside.time; server = c.self.inside.server; gateway = c.self.inside.gateway; clients = c.receive_at.new.clients.items; packets = c.receive_at.new.packets.items } in
-    subst (λ (was : PlayedValue). OnOk c.receive_at.result ((settings : SettingsValue) → Goes settings (λ old new. ReceivesPacket {S = State} (plan_with settings was.parties) old c.args.place c.args.bytes.now new) was now)) c.self.view_is
+    subst (λ (was : PlayedValue). OnOk c.receive_at.result ((settings : SettingsValue) → Goes settings (λ old new. ReceivesWell {S = State} (plan_with settings was.parties) old c.args.place c.args.bytes.now new) was now)) c.self.view_is
     (on_ok_weaker c.receive_at.result (λ done settings. leading.receives settings inside c.args.place item c.args.bytes.now c.receive_at.new.clients.items c.receive_at.new.packets.items planned done) (subst (λ (k : PlanClient). OnOk c.receive_at.result (ReceivedAt c.self.inside.clients.items c.args.place k.behind c.args.bytes.now c.self.inside.time c.receive_at.new.clients.items c.self.inside.packets.items c.receive_at.new.packets.items)) (sym c.index-items-place.is) c.receive_at.ensures.received))

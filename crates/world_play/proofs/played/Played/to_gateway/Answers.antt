@@ -6,7 +6,7 @@ use Rattle.dots_settings.specs.Settings.{SettingsValue}
 use Rattle.dots_host.specs.declared.event.Event.TheVariants as incoming
 use Rattle.dots_host.specs.Acts.{event_of}
 use Rattle.dots_machine.specs.Machine.{State, Step}
-use Rattle.dots_world.specs.Worlds.{World, Serves, PassesOn, AsksFor, ReceivesPacket, AllHandOut}
+use Rattle.dots_world.specs.OneWorld.{PassesOnWell}
 use Rattle.world_play.specs.Parties.{plan_with}
 use Rattle.world_play.specs.Playing.{PlayedValue, Goes, IsSound, timed}
 use Rattle.world_play.proofs.Leading as leading
@@ -24,5 +24,5 @@ returns-clause-comes c =
     (λ done settings.
     let is = subst (λ (was : PlayedValue). to_gateway (plan_with settings was.parties) c.args.source ≡ Some c.in-Some.from) c.self.view_is
     (sym (leading.to_gateway_so settings c.self.inside.parties c.args.source) ∙ sym c.for_gateway.ensures ∙ c.in-Some.is) in
-    leading.goes_weaker settings (λ old new. PassesOn (plan_with settings c.args.self.now.parties) old (incoming.Datagram c.in-Some.from c.args.bytes.now) new) (ComesToGateway (plan_with settings c.args.self.now.parties) c.args.source c.args.bytes.now) c.args.self.now c.pass.new.self (λ old new comes. (c.in-Some.from, is, comes)) (done settings))
+    leading.goes_weaker settings (λ old new. PassesOnWell (plan_with settings c.args.self.now.parties) old (incoming.Datagram c.in-Some.from c.args.bytes.now) new) (ComesToGateway (plan_with settings c.args.self.now.parties) c.args.source c.args.bytes.now) c.args.self.now c.pass.new.self (λ old new comes. (c.in-Some.from, is, comes)) (done settings))
     c.pass.ensures.passes

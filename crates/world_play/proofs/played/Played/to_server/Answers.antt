@@ -6,7 +6,8 @@ use Rattle.dots_settings.specs.Settings.{SettingsValue}
 use Rattle.dots_host.specs.declared.event.Event.TheVariants as incoming
 use Rattle.dots_host.specs.Acts.{event_of}
 use Rattle.dots_machine.specs.Machine.{State, Step}
-use Rattle.dots_world.specs.Worlds.{World, Serves, PassesOn, AsksFor, ReceivesPacket, AllHandOut}
+use Rattle.dots_world.specs.Worlds.{Serves}
+use Rattle.dots_world.specs.OneWorld.{StepsWell}
 use Rattle.world_play.specs.Parties.{plan_with}
 use Rattle.world_play.specs.Playing.{PlayedValue, Goes, IsSound, timed}
 use Rattle.world_play.proofs.Leading as leading
@@ -27,7 +28,7 @@ returns-clause-comes c =
     (λ done settings.
     let is = subst (λ (was : PlayedValue). to_server (plan_with settings was.parties) c.args.source ≡ Some c.in-Some.from) c.self.view_is
     (sym (leading.to_server_so settings c.self.inside.parties c.args.source) ∙ sym c.for_server.ensures ∙ c.in-Some.is) in
-    leading.goes_weaker settings (λ old new. Serves (Step settings) (plan_with settings c.args.self.now.parties) old (incoming.Datagram c.in-Some.from c.args.bytes.now) new)
-    (λ old new. ComesToServer (Step settings) (plan_with settings c.args.self.now.parties) old c.args.source c.args.bytes.now new) c.args.self.now c.serve.new.self (λ old new comes. (c.in-Some.from, is, comes))
-    (subst (λ bytes. Goes settings (λ old new. Serves (Step settings) (plan_with settings c.args.self.now.parties) old (incoming.Datagram c.in-Some.from bytes) new) c.args.self.now c.serve.new.self) whole (done settings)))
+    leading.goes_weaker settings (λ old new. Serves (StepsWell (Step settings)) (plan_with settings c.args.self.now.parties) old (incoming.Datagram c.in-Some.from c.args.bytes.now) new)
+    (λ old new. ComesToServer (StepsWell (Step settings)) (plan_with settings c.args.self.now.parties) old c.args.source c.args.bytes.now new) c.args.self.now c.serve.new.self (λ old new comes. (c.in-Some.from, is, comes))
+    (subst (λ bytes. Goes settings (λ old new. Serves (StepsWell (Step settings)) (plan_with settings c.args.self.now.parties) old (incoming.Datagram c.in-Some.from bytes) new) c.args.self.now c.serve.new.self) whole (done settings)))
     c.serve.ensures.serves
