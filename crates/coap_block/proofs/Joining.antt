@@ -90,16 +90,16 @@ bytes_self [] = refl
 bytes_self (x ∷ xs) = and_from _ _ (eq-eqb x x refl) (bytes_self xs)
 
 -- what was stored for the request is found
-kept_found : (fetch : Fetch) (from : ℕ) (request body : List ℕ) (old new : List StoredBody) → new ≡ keeping old from request body → from ≡ fetch.peer → request ≡ fetch.request
+stored_found : (fetch : Fetch) (from : ℕ) (request body : List ℕ) (old new : List StoredBody) → new ≡ keeping old from request body → from ≡ fetch.peer → request ≡ fetch.request
     → stored_of fetch.peer fetch.request new ≡ Some (record { peer = from; request = request; body = body })
-kept_found fetch from request body old new made of_peer of_request =
+stored_found fetch from request body old new made of_peer of_request =
     let mine : StoredBody = record { peer = from; request = request; body = body } in
     subst (λ n. stored_of n fetch.request new ≡ Some mine) of_peer (subst (λ bytes. stored_of from bytes new ≡ Some mine) of_request
     (ap (stored_of from request) made ∙ stored_new from request old mine (and_from _ _ (eq-eqb from from refl) (bytes_self request))))
 
 first_made : (fetch : Fetch) (asked : Asked) (m : CoapMessage) (old new : List StoredBody) (leaves : List ℕ) (block : BlockOption) → IsAnswered (first block) asked m old leaves new → leaves ≡ spelling (cut_to m block m.payload) → m.code ≡ 69
     → asked.peer ≡ fetch.peer → asked.request ≡ fetch.request → stored_of fetch.peer fetch.request new ≡ Some (record { peer = asked.peer; request = asked.request; body = m.payload })
-first_made fetch asked m old new leaves block (inl made) content code peer request = kept_found fetch asked.peer asked.request m.payload old new made.1 peer request
+first_made fetch asked m old new leaves block (inl made) content code peer request = stored_found fetch asked.peer asked.request m.payload old new made.1 peer request
 first_made fetch asked m old new leaves block (inr made) content code peer request =
     let other : m.code ≡ 160 = second (cut_to m block m.payload) (unavailable m) (sym content ∙ made.0) in
     absurd (omega (arith, code, other))
@@ -135,7 +135,7 @@ notice_fetched fetch old new (gave (owned.To to leaves) done) (gave (owned.To pe
         record { peer = notice.observed.peer; request = notice.observed.request; body = notice.message.payload },
         record {
           text_is = came.whole;
-          holds = kept_found fetch notice.observed.peer notice.observed.request notice.message.payload old.stored new.stored made.1 came.of_peer came.of_request;
+          holds = stored_found fetch notice.observed.peer notice.observed.request notice.message.payload old.stored new.stored made.1 came.of_peer came.of_request;
           number_is = ap (λ b. b.number) came.made;
           size_is = came.sized;
         },

@@ -2,6 +2,7 @@ pub mod Among
 pub mod Sizes
 pub mod Cuts
 pub mod Asking
+pub mod Whether
 pub mod Sending
 pub mod Values
 pub mod AroundLemmas

@@ -1,7 +1,7 @@
 //! What is known between datagrams.
 
-ghost use Rattle.std.specs.Prelude.{◌≡◌, ◌≤◌, [], length, take, true, false, None, IfOk, if◌then◌else◌};
-ghost use Rattle.std.specs.Bool.{OnTrue};
+ghost use Rattle.std.specs.Prelude.{◌≡◌, ◌≢◌, ◌≤◌, [], length, take, true, false, None, IfOk, if◌then◌else◌, slice_index};
+ghost use Rattle.std.specs.Bool.{OnTrue, OnFalse};
 ghost use Rattle.coap_message.specs.Message.{payload_bytes};
 ghost use Rattle.coap_block.specs.Blocks.{Sees, Sends, AreFew};
 ghost use Rattle.coap_block.specs.Around.{no_blocks};
@@ -12,6 +12,7 @@ use crate::observed::{ObservedRequest, note_reply};
 use crate::replying::{MAX_STORED, answer_reply};
 use crate::room::Room;
 use crate::stored::StoredBody;
+use coap_message::codes::GET;
 use coap_message::decode;
 use dots_lists::NoMemory;
 use std::alloc::Global;
@@ -84,6 +85,9 @@ impl Cutting {
         ensures observed { self.new.blocks.observed ≡ self.old.blocks.observed }
     {
         self.awaited = None;
+        if !may_be_get(datagram) {
+            return false;
+        }
         let Ok(message) = decode(datagram) else {
             return false;
         };
@@ -116,6 +120,9 @@ impl Cutting {
         ensures known { AreFew self.new.blocks.observed }
     {
         let awaited = self.awaited;
+        if awaited.is_none() && self.observed.is_empty() {
+            return false;
+        }
         let Ok(message) = decode(bytes) else {
             return false;
         };
@@ -141,6 +148,16 @@ impl Cutting {
             &message,
             before,
         )
+    }
+}
+
+/// Whether the bytes spell a GET, where they spell a message: the second byte of a message is its code.
+fn may_be_get(bytes: &[u8]) -> bool
+    ensures { OnFalse result (slice_index bytes.now 1 ≢ 1) }
+{
+    match bytes {
+        [_, code, ..] => *code == GET,
+        _ => false,
     }
 }
 

@@ -3,6 +3,7 @@ pub mod Passing
 pub mod Counting
 pub mod Known
 pub mod HexPieces
+pub mod DecodingPairs
 pub mod Splits
 pub mod EventLines
 pub mod Feeds

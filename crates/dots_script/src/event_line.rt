@@ -5,8 +5,9 @@ ghost use Rattle.dots_host.specs.declared.TheConstants.{MAX_EVENT_BYTES};
 ghost use Rattle.dots_script.specs.Script.{IsNumberAndBytes, IsNumber, SaysEvent, IsEventLine};
 ghost use Rattle.dots_script.specs.Words.{HasNoSpace, IsAfterNumber};
 
+use crate::hex_digits::read_digits;
 use dots_host::{Got, MAX_EVENT_BYTES, What};
-use dots_lists::{parse_decimal, read_hex};
+use dots_lists::parse_decimal;
 
 /// The event of a script line and the time beside it, the event's bytes at the front of the room. Where there is
 /// none, what then stands in the room isn't said.
@@ -129,7 +130,7 @@ fn number_and_bytes(text: &[u8], into: &mut [u8]) -> Option<(u32, usize)>
     let Some((number, digits)) = small_before_space(text) else {
         return None;
     };
-    let Some(len) = read_hex(digits, into) else {
+    let Some(len) = read_digits(digits, into) else {
         return None;
     };
     Some((number, len))

@@ -20,6 +20,7 @@
 mod block;
 mod checked;
 mod event_line;
+mod hex_digits;
 mod laws;
 mod lines;
 mod mistakes;
