@@ -7,3 +7,7 @@ pub mod Journals
 pub mod Listings
 pub mod Reasons
 pub mod Filters
+pub mod Migrating
+pub mod Leavings
+pub mod KeptEntries
+pub mod Making

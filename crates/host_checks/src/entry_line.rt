@@ -28,7 +28,7 @@ pub fn add_entry(
 
 /// Adds when and by whom the change was asked for.
 #[tactic(auto, unfolding(crate::specs::EntryLines::when_text))]
-fn add_when(text: &mut Vec<u8>, slot: u64, entry: &Entry) -> Result<(), NoMemory>
+pub fn add_when(text: &mut Vec<u8>, slot: u64, entry: &Entry) -> Result<(), NoMemory>
     ensures { OnOk result (text.new.items ≡ text.old.items ++ when_text slot entry.now) }
 {
     add_numbered(text, b"slot ", slot, b" at ")?;
@@ -38,7 +38,7 @@ fn add_when(text: &mut Vec<u8>, slot: u64, entry: &Entry) -> Result<(), NoMemory
 
 /// Adds for which client.
 #[tactic(auto, unfolding(crate::specs::EntryLines::client_text))]
-fn add_client(text: &mut Vec<u8>, settings: &Settings, entry: &Entry) -> Result<(), NoMemory>
+pub fn add_client(text: &mut Vec<u8>, settings: &Settings, entry: &Entry) -> Result<(), NoMemory>
     ensures { OnOk result (text.new.items ≡ text.old.items ++ client_text settings.now entry.now) }
 {
     add_words(text, b" domain ")?;
@@ -112,7 +112,7 @@ fn hex_digit(number: u8) -> u8
 }
 
 /// Adds what the change is.
-fn add_change(text: &mut Vec<u8>, change: &Change) -> Result<(), NoMemory>
+pub fn add_change(text: &mut Vec<u8>, change: &Change) -> Result<(), NoMemory>
     ensures { OnOk result (text.new.items ≡ text.old.items ++ change_text change.now) }
 {
     add_words(text, change_word(change))?;
