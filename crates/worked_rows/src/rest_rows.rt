@@ -106,6 +106,22 @@ pub const REST: &str = r#"$ replay settings
 > to 0 518000034aff756e6b6e6f776e20616c696173
 = scrub net1 dz6pHjaADkaFTbjr0JGBpw 123 192.0.2.80/32 any any
 
+# An alias of 32 prefixes, named four times with a prefix besides, comes to 129, one more than a mitigation may have: 4.00 with `too many`. One of these
+# names that isn't held comes first, and 128 are granted.
+< at 1000 open 1 0
+<~ at 1000 piece 1 PUT_CLIENT^PUT ^WEB^ HTTP/1.1~Content-Length: 579~~{"ietf-dots-data-channel:alias":[{"name":"^web^","target-prefix":[^31*"192.0.2.80/32",^"192.0.2.80/32^END
+< at 1001 from 0 51030001+MITIGATE+CUID+MID_123+12010fffa101a10281a30681+INSIDE+0d84+4*63776562+LIFETIME_3600
+< at 1001 from 0 51030001+MITIGATE+CUID+MID_123+12010fffa101a10281a30681+INSIDE+0d85+4*63776562+6178+LIFETIME_3600
+< at 1001 from 0 51030001+MITIGATE+CUID+MID_123+12010fffa101a10281a20d84+4*63776562+LIFETIME_3600
+< at 1002 from 0 51040002+MITIGATE+CUID+MID_123
+< at 1122 from 77 00
+>~ conn 1 CREATED
+>~ conn 1 CREATED
+> to 0 518000014aff746f6f206d616e79
+> to 0 UNKNOWN_ALIAS
+> to 0 REPLY
+> to 0 514200024a
+
 # A name that another peer of the domain uses is refused, whichever channel has it.
 < at 1000 open 1 0
 < at 1000 open 2 1
