@@ -1,6 +1,8 @@
 //! The last messages of one peer and domain.
 
-ghost use Rattle.std.specs.Prelude.{◌≡◌, ◌≤◌, map, filter, length, option_map, option_copied, vec_capacity, IfOk};
+ghost use Rattle.std.specs.Prelude.{◌≡◌, ◌≤◌, ℕ, false, map, filter, length, option_map, option_copied, vec_capacity, IfOk};
+ghost use Rattle.std.specs.Bool.{OnFalse};
+ghost use Rattle.dots_history.specs.Entries.{may_repeat};
 ghost use Rattle.dots_history.specs.Places.{last_of};
 ghost use Rattle.dots_history.specs.Slots.{Rises, number_in};
 ghost use Rattle.dots_history.specs.KeptPlaces.{union};
@@ -9,7 +11,7 @@ ghost use Rattle.coap_exchange.specs.Rings.{RingValue, empty_ring, grown, answer
 
 use crate::message::Message;
 use crate::pair::Pair;
-use dots_history::{SlotList, is_remembered, number_in};
+use dots_history::{MessageKey, SlotList, is_remembered, number_in};
 use dots_lists::NoMemory;
 use std::alloc::Global;
 use std::marker::Model;
@@ -101,11 +103,23 @@ fn last_repeated(messages: &[Message], id: u16, now: u64) -> Option<&Message>
 {
     let mut found = None;
     for message in messages {
-        if is_remembered(now, id, message.time, message.key) {
+        if has_id(message.key, id) && is_remembered(now, id, message.time, message.key) {
             found = Some(message);
         }
     }
     found
+}
+
+/// Whether the message had this Message ID. Most had another, and of these the time isn't looked at.
+#[tactic(auto, unfolding(dots_history::specs::Entries::may_repeat))]
+fn has_id(key: MessageKey, id: u16) -> bool
+    ensures { OnFalse result ((now at : ℕ) → may_repeat now id at key ≡ false) }
+{
+    match key {
+        MessageKey::Http => false,
+        MessageKey::Non(other) => other == id,
+        MessageKey::Con(other) => other == id,
+    }
 }
 
 /// Puts the slot of each message into the list.
