@@ -1,5 +1,5 @@
 -- The domain for which is asked is that of the peer's role.
-use Rattle.std.proofs.Common.{◌≡◌, ℕ, Bool, true, ◌||◌, Option, Some, None, List, refl, sym, ap, ◌∙◌, subst}
+use Rattle.std.proofs.Common.{◌≡◌, ℕ, Bool, true, ◌||◌, Option, Some, None, Result, List, refl, sym, ap, ◌∙◌, subst}
 use Rattle.std.specs.Prelude.{is_some}
 use Rattle.std.proofs.lemmas.Bool.{or_right, eq-eqb}
 use Rattle.std.proofs.lemmas.Option.{none-some, same_Some}
@@ -24,6 +24,8 @@ use Rattle.dots_machine.specs.Facts.{Facts}
 use Rattle.dots_machine.specs.Mitigations.{get_answer}
 use Rattle.dots_machine.specs.Observing.{in_known, asked_in}
 use Rattle.dots_server.specs.Asking.{role_with, IsOwn, domain_asked}
+use Rattle.dots_history.specs.Entries.{option_any}
+use Rattle.dots_server.specs.LackingMemory.{Yields}
 use Rattle.dots_server.specs.Observing.{asked_from, Does}
 
 by_role : (settings : SettingsValue) (own : Option ℕ) (cdid : Option (List ℕ)) → domain_for settings (role_with own) cdid ≡ domain_asked settings own cdid
@@ -40,6 +42,10 @@ module _ (here settings : SettingsValue) (peer : ℕ) (own : Option ℕ) (cdid :
 
   pub with_domain : (domain : ℕ) → domain_asked here own cdid ≡ Some domain → decided domain ≡ in_domain x (domain_for settings (role_of settings peer) cdid) decided
   with_domain domain some = sym (ap (λ d. in_domain x d decided) (domain_is ∙ some))
+
+  pub yields_there : {E : Type 0} (r : Result Verdict E) (takes : ℕ → Bool) (domain : ℕ) → domain_asked here own cdid ≡ Some domain → Yields r (decided domain) (takes domain)
+      → Yields r (in_domain x (domain_for settings (role_of settings peer) cdid) decided) (option_any takes (domain_for settings (role_of settings peer) cdid))
+  yields_there r takes domain some yields = subst (λ d. Yields r (in_domain x d decided) (option_any takes d)) (sym (domain_is ∙ some)) yields
 
   pub known_nowhere : (asked : ℕ → Watching) → domain_asked here own cdid ≡ None → in_known (domain_for settings (role_of settings peer) cdid) asked ≡ watching.Nothing
   known_nowhere asked none = ap (λ d. in_known d asked) (domain_is ∙ none)

@@ -18,6 +18,7 @@ pub mod Reports
 pub mod Insides
 pub mod MitigationReplies
 pub mod Verdicts
+pub mod Yielding
 pub mod HearingPeers
 pub mod Watching
 pub mod Notifying
@@ -32,3 +33,4 @@ mod Lapsing
 mod Meeting
 mod EventTurns
 mod OneTurn
+pub mod Looks

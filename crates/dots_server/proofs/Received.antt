@@ -17,7 +17,7 @@ use Rattle.dots_machine.specs.Domains.{is_gateway, is_stranger}
 use Rattle.dots_keys.specs.Exchanges.{exchange_in}
 use Rattle.dots_machine.specs.Requests.{received_as, IsReceived, unread, asks_nothing, meant}
 use Rattle.dots_machine.specs.Replies.{unavailable}
-use Rattle.dots_machine.specs.Machine.{State, Decides, by_silence, by_rules, for_want_of_memory}
+use Rattle.dots_machine.specs.Machine.{State, facts_in, Decides, by_silence, by_rules, for_want_of_memory}
 use Rattle.dots_machine.proofs.Verdicts.{ruled}
 use Rattle.dots_server.specs.Receiving.{Lacks}
 use Rattle.dots_host.specs.declared.out.OwnedOut.TheVariants as owned
@@ -56,8 +56,8 @@ module _ (settings : SettingsValue) (state : State) (peer : ℕ) (datagram : Lis
       let right = head_is_right (head_of message gateway) message.payload r (subst (Means message gateway) same.1 means) in
       for_want_of_memory known (record { message = message; is_message = m; spelled = spelled; asks = asks; head = right; answer = is ∙ ap (λ x. verdict.Reply (unavailable x)) same.0 })
 
-  unavailable_decided : (got : Received) (v : Verdict) → IsReceived datagram gateway got → IsUnavailable got v → Decides settings state peer datagram v
-  unavailable_decided (received.Asked x r) v got lacks = lacks_memory x r v got lacks
+  unavailable_decided : (got : Received) (v : Verdict) → IsReceived datagram gateway got → IsUnavailable settings (facts_in settings state) peer got v → Decides settings state peer datagram v
+  unavailable_decided (received.Asked x r) v got lacks = lacks_memory x r v got lacks.1
   unavailable_decided (received.Refused x e) v got lacks = absurd lacks
   unavailable_decided (received.Unread d) v got lacks = absurd lacks
   unavailable_decided (received.Dismissed d) v got lacks = absurd lacks

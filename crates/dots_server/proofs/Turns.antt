@@ -63,7 +63,7 @@ sends_then [] later (timed ∷ front) back a b = absurd a
 sends_then (out ∷ outs) later [] back a b = absurd a
 sends_then (out ∷ outs) later (timed ∷ front) back a b = (a.0, sends_then outs later front back a.1 b)
 
-sends_go_on : (sends : List OwnedOut) (acts : List Timed) → AreSends sends acts → GoOn acts
+pub sends_go_on : (sends : List OwnedOut) (acts : List Timed) → AreSends sends acts → GoOn acts
 sends_go_on [] [] are = tt
 sends_go_on [] (timed ∷ acts) are = absurd are
 sends_go_on (out ∷ sends) [] are = absurd are
@@ -130,13 +130,13 @@ leaves_more settings start first media acts trace history more grows leaves =
     take_grown (suc n) (x ∷ xs) ys le = ap (λ zs. x ∷ zs) (take_grown n xs ys (omega (arith, le)))
 
 module _ (settings : SettingsValue) where
-  abbrev owing : State → List (State × OwnedOut) → Owing State
+  abbrev pub owing : State → List (State × OwnedOut) → Owing State
   owing state owed = record { last = state; owed = owed }
 
   abbrev HasFrom : ℕ → List Entry → (ℕ → ℕ) → Type 0
   HasFrom t history image = HasKept settings settings.limits.remembered t history image
 
-  abbrev timed_at : ℕ → Event → ℕ → Timed
+  abbrev pub timed_at : ℕ → Event → ℕ → Timed
   timed_at moment what at = record { moment = moment; act = took what at }
 
   -- ---- what lies on the disk
@@ -273,7 +273,7 @@ module _ (settings : SettingsValue) where
       told (gave o d) s rest = (owing state owed, (ap (λ x. (send.0, x) ∷ owed) (sym s), refl), tt, rest)
 
   -- an event that is taken, and its sends
-  event_story : (old new : State) (moment : ℕ) (what : Event) (at : ℕ) (owed : List (State × OwnedOut)) (acts : List Timed) → Step settings old what at owed new → AreSends (outs_of owed) acts
+  pub event_story : (old new : State) (moment : ℕ) (what : Event) (at : ℕ) (owed : List (State × OwnedOut)) (acts : List Timed) → Step settings old what at owed new → AreSends (outs_of owed) acts
       → Story settings (resting old) (timed_at moment what at ∷ acts) (new ∷ shown_by owed) (resting new)
   event_story old new moment what at owed acts s are = (owing new owed, (refl, s), refl, sends_story new owed acts are)
 
@@ -501,7 +501,7 @@ pub record LivesOn (settings : SettingsValue) (start : State) (server : ServerVa
   pub trace : List State
   pub told : Added acts acts_now (GoesOnTo settings start state n first media Rests trace)
 
-pub lives_first : (settings : SettingsValue) (start : State) (server : ServerValue) (stored : List Entry) (media : Option Media) (acts : Option (List Timed)) → RestartsWith server settings start stored
+abbrev pub lives_first : (settings : SettingsValue) (start : State) (server : ServerValue) (stored : List Entry) (media : Option Media) (acts : Option (List Timed)) → RestartsWith server settings start stored
     → LivesOn settings start server 0 (RestsWith media (LiesOn settings (stored_of server stored))) media media acts acts
 lives_first settings start server stored media acts kept = record {
   state = start;
@@ -519,14 +519,14 @@ module _ (settings : SettingsValue) (start : State) (server : ServerValue) (n mo
   abbrev now_stored : Stored
   now_stored = stored_of server lives.few
 
-  is_stored : IsStored settings lives.state.time lives.state.history lives.few
+  pub is_stored : IsStored settings lives.state.time lives.state.history lives.few
   is_stored = restarts_stored server settings lives.state lives.few lives.kept
 
   pub rests_came : Rests → RestsWith b (journal.Represents server.journal settings lives.few)
   rests_came r = rests_still a b (LiesOn settings now_stored) (lives.rests r) keeps
 
   -- an event was taken, and the run goes on
-  pub lives_then : (next : ServerValue) (d : Option Media) (ws : Option (List Timed)) → IsNoEnd (took what at) → Took settings lives.state what at server next lives.few b d zs ws
+  abbrev pub lives_then : (next : ServerValue) (d : Option Media) (ws : Option (List Timed)) → IsNoEnd (took what at) → Took settings lives.state what at server next lives.few b d zs ws
       → LivesOn settings start next (n + 1) Rests first d xs ws
   lives_then next d ws goes done =
       let late = step_timely settings lives.state what at (owed_in done.turns) done.new is_stored.timely done.step in record {

@@ -19,6 +19,8 @@ use Rattle.dots_machine.specs.declared.watching.Watching.{Watching}
 use Rattle.dots_machine.specs.Observing.{watching_of}
 use Rattle.dots_server.specs.Observing.{Does}
 use Rattle.dots_machine.specs.Machine.{State, facts_in, rules_say}
+use Rattle.dots_machine.specs.Facts.{Facts}
+use Rattle.dots_server.specs.LackingMemory.{takes_memory}
 
 -- a client has a domain of its own, and a gateway none
 abbrev pub role_with : Option ℕ → Role
@@ -49,13 +51,16 @@ heard_by came.FromStranger = false
 heard_by (came.Lacking exchange) = true
 heard_by (came.Received own got) = is_heard got
 
-abbrev pub IsUnavailable : Received → Verdict → Type 0
-IsUnavailable (received.Asked exchange request) decided = decided ≡ verdict.Reply (unavailable exchange)
-IsUnavailable _ decided = ⊥
+-- a request for which memory is taken is answered 5.00, for want of it
+abbrev pub IsUnavailable : SettingsValue → Facts → ℕ → Received → Verdict → Type 0
+IsUnavailable settings facts peer (received.Asked exchange request) decided =
+    (takes_memory settings facts peer exchange request ≡ true) × (decided ≡ verdict.Reply (unavailable exchange))
+IsUnavailable settings facts peer _ decided = ⊥
 
--- what the rules say of it, or 5.00 to a request for want of memory
+-- What the rules say of it, or 5.00 for want of memory, where what they say takes any.
 abbrev pub DecidesOn : SettingsValue → State → ℕ → Received → Verdict → Type 0
-DecidesOn settings state peer got decided = (decided ≡ rules_say settings (facts_in settings state) peer got) ⊎ IsUnavailable got decided
+DecidesOn settings state peer got decided =
+    (decided ≡ rules_say settings (facts_in settings state) peer got) ⊎ IsUnavailable settings (facts_in settings state) peer got decided
 
 -- what is to be done on it, for observers too
 abbrev pub DoesOn : SettingsValue → State → ℕ → Received → Watching → Verdict → Type 0

@@ -7,7 +7,9 @@ pub mod ServerValues
 pub mod Turning
 pub mod Observing
 pub mod MitigationReading
+pub mod LackingMemory
 pub mod Asking
 pub mod HearingPeers
 pub mod Pieces
 pub mod Signals
+pub mod Onlooking

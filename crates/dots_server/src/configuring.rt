@@ -12,10 +12,12 @@ ghost use Rattle.session_core.specs.Negotiating.{negotiated};
 ghost use Rattle.dots_machine.specs.Domains.{config_domain};
 ghost use Rattle.dots_machine.specs.Machine.{State, facts_in};
 ghost use Rattle.dots_machine.specs.declared.verdict.Verdict.TheVariants as verdicts;
+ghost use Rattle.dots_machine.specs.Replies.{configuration_reply};
 ghost use Rattle.dots_machine.specs.ConfiguredPeers.{sid_of, is_held, configured_in};
 ghost use Rattle.dots_machine.specs.Deciding.{in_domain, config_entry, config_answer, put_config_for, clear_answer, delete_config_for, config_view, get_config_for};
 ghost use Rattle.dots_server.specs.Asking.{role_with, IsOwn};
 ghost use Rattle.dots_server.specs.HearingPeers.{is_wanted};
+ghost use Rattle.dots_server.specs.LackingMemory.{YieldsMade};
 ghost use Rattle.dots_server.specs.ServerValues.{Represents, CanCarryOut};
 
 use crate::entries::config_entry;
@@ -41,7 +43,7 @@ impl Server {
     ) -> Result<Verdict, NoMemory>
         requires own { IsOwn self.now.settings peer own }
         ensures decides { (settings : SettingsValue) (state : State) → Represents self.now settings state
-            → IfOk result (λ verdict. verdict ≡ in_domain exchange.now (config_domain (role_of settings peer)) (put_config_for (facts_in settings state) peer exchange.now sid body.now)) }
+            → YieldsMade result (in_domain exchange.now (config_domain (role_of settings peer)) (put_config_for (facts_in settings state) peer exchange.now sid body.now)) }
         ensures ready { IfOk result (λ verdict. CanCarryOut verdict self.now) }
     {
         let domain = config_domain(own);
@@ -63,7 +65,7 @@ impl Server {
     ) -> Result<Verdict, NoMemory>
         requires may { may_configure (role_of self.now.settings peer) domain ≡ true }
         ensures decides { (settings : SettingsValue) (state : State) → Represents self.now settings state
-            → IfOk result (λ verdict. verdict ≡ config_answer state.time peer domain exchange.now sid (is_held sid (configured_in state.history domain peer))
+            → YieldsMade result (config_answer state.time peer domain exchange.now sid (is_held sid (configured_in state.history domain peer))
             (negotiated (sid_of (configured_in state.history domain peer)) sid body.now)) }
         ensures ready { IfOk result (λ verdict. CanCarryOut verdict self.now) }
     {
@@ -115,7 +117,7 @@ impl Server {
     ) -> Result<Verdict, NoMemory>
         requires own { IsOwn self.now.settings peer own }
         ensures decides { (settings : SettingsValue) (state : State) → Represents self.now settings state
-            → IfOk result (λ verdict. verdict ≡ in_domain exchange.now (config_domain (role_of settings peer)) (delete_config_for (facts_in settings state) peer exchange.now sid)) }
+            → YieldsMade result (in_domain exchange.now (config_domain (role_of settings peer)) (delete_config_for (facts_in settings state) peer exchange.now sid)) }
         ensures ready { IfOk result (λ verdict. CanCarryOut verdict self.now) }
     {
         let domain = config_domain(own);
@@ -136,7 +138,7 @@ impl Server {
     ) -> Result<Verdict, NoMemory>
         requires may { may_configure (role_of self.now.settings peer) domain ≡ true }
         ensures decides { (settings : SettingsValue) (state : State) → Represents self.now settings state
-            → IfOk result (λ verdict. verdict ≡ clear_answer state.time peer domain exchange.now (is_held sid (configured_in state.history domain peer))) }
+            → YieldsMade result (clear_answer state.time peer domain exchange.now (is_held sid (configured_in state.history domain peer))) }
         ensures ready { IfOk result (λ verdict. CanCarryOut verdict self.now) }
     {
         if is_held(sid, self.ledger.registry().config(peer)) {
@@ -161,7 +163,7 @@ impl Server {
     ) -> Result<Verdict, NoMemory>
         requires own { IsOwn self.now.settings peer own }
         ensures decides { (settings : SettingsValue) (state : State) → Represents self.now settings state
-            → IfOk result (λ verdict. verdict ≡ in_domain exchange.now (config_domain (role_of settings peer)) (get_config_for (facts_in settings state) peer exchange.now sid)) }
+            → YieldsMade result (in_domain exchange.now (config_domain (role_of settings peer)) (get_config_for (facts_in settings state) peer exchange.now sid)) }
         ensures ready { IfOk result (λ verdict. CanCarryOut verdict self.now) }
     {
         self.view_config(peer, config_domain(own), exchange, sid)
@@ -177,14 +179,29 @@ impl Server {
     ) -> Result<Verdict, NoMemory>
         requires may { may_configure (role_of self.now.settings peer) domain ≡ true }
         ensures decides { (settings : SettingsValue) (state : State) → Represents self.now settings state
-            → IfOk result (λ verdict. verdict ≡ config_view exchange.now sid (configured_in state.history domain peer)) }
+            → YieldsMade result (config_view exchange.now sid (configured_in state.history domain peer)) }
         ensures ready { IfOk result (λ verdict. CanCarryOut verdict self.now) }
     {
         let held = self.ledger.registry().config(peer);
         if is_wanted(sid, held) {
-            return Ok(Verdict::LongReply(configuration_reply(self.alloc, exchange, held)?));
+            return self.tell_config(exchange, held);
         }
         Ok(Verdict::Reply(absent(exchange)))
+    }
+
+    /// The configuration that is held is told, or the default values where there is none.
+    fn tell_config(
+        &self,
+        exchange: &Exchange,
+        held: Option<(u32, &Config)>,
+    ) -> Result<Verdict, NoMemory>
+        ensures verdict { IfOk result (λ verdict. verdict ≡ verdicts.LongReply (configuration_reply exchange.now (option_map config_now held.entry))) }
+        ensures ready { IfOk result (λ verdict. CanCarryOut verdict self.now) }
+    {
+        match configuration_reply(self.alloc, exchange, held) {
+            Ok(reply) => Ok(Verdict::LongReply(reply)),
+            Err(fault) => Err(fault),
+        }
     }
 }
 

@@ -1,11 +1,12 @@
 //! What a server decides on a datagram.
 
-ghost use Rattle.std.specs.Prelude.{◌≡◌, ◌<◌, ◌||◌, ℕ, is_some, List, length, true, IfOk, IfSome, IfNone, Some, None, Ok};
+ghost use Rattle.std.specs.Prelude.{◌≡◌, ◌<◌, ◌||◌, ℕ, is_some, List, length, true, IfOk, IfErr, OnErr, IfSome, IfNone, Some, None, Ok, Err};
 ghost use Rattle.dots_keys.specs.Askable.{IsAskable, IsAskableBody};
 ghost use Rattle.dots_keys.specs.Waiting.{WaitsForClient};
 ghost use Rattle.dots_settings.specs.Settings.{SettingsValue};
 ghost use Rattle.dots_settings.specs.Lookups.{role_of};
 ghost use Rattle.dots_history.specs.Calm.{may_act, is_client_of};
+ghost use Rattle.dots_history.specs.Entries.{option_any};
 ghost use Rattle.dots_machine.specs.Machine.{State, reject_verdict, dismissal_verdict, facts_in};
 ghost use Rattle.dots_machine.specs.Observing.{in_known, asked_in, watching_of};
 ghost use Rattle.dots_machine.specs.Mitigations.{get_answer};
@@ -16,6 +17,7 @@ ghost use Rattle.dots_server.specs.Observing.{asked_from, leaving, rejecting, Do
 ghost use Rattle.dots_machine.specs.Domains.{domain_for};
 ghost use Rattle.dots_machine.specs.Deciding.{in_domain, with_mid, put_in, put_for, delete_in, delete_for, get_for, answer_to};
 ghost use Rattle.dots_server.specs.Asking.{IsOwn, IsCome, heard_by, domain_asked, DoesOn};
+ghost use Rattle.dots_server.specs.LackingMemory.{is_made, put_in_takes, put_for_takes, takes_memory, Yields, YieldsMade};
 ghost use Rattle.dots_server.specs.Receiving.{IsGrantable};
 ghost use Rattle.dots_server.specs.ServerValues.{Represents, CanCarryOut};
 ghost use Rattle.dots_server.specs.HearingPeers.{is_heard};
@@ -138,6 +140,8 @@ impl Server {
         ensures does { (settings : SettingsValue) (state : State) → Represents self.now settings state
             → IfOk result (λ decision. Does settings peer state.observers (watching_of settings peer (received.Asked exchange request))
             (answer_to settings (facts_in settings state) peer exchange request) decision.watching decision.verdict) }
+        ensures lacks { (settings : SettingsValue) (state : State) → Represents self.now settings state
+            → OnErr result (takes_memory settings (facts_in settings state) peer exchange request ≡ true) }
         ensures ready { IfOk result (λ decision. CanCarryOut decision.verdict self.now) }
         ensures may { IfOk result (λ decision. MayObserve self.now.watch.observers.pairs decision.watching) }
     {
@@ -177,7 +181,8 @@ impl Server {
         requires waits { is_some path.cdid ≡ true → body.trigger ≡ true }
         requires own { IsOwn self.now.settings peer own }
         ensures decides { (settings : SettingsValue) (state : State) → Represents self.now settings state
-            → IfOk result (λ verdict. verdict ≡ in_domain exchange (domain_for settings (role_of settings peer) path.cdid) (put_for settings (facts_in settings state) peer exchange path body)) }
+            → Yields result (in_domain exchange (domain_for settings (role_of settings peer) path.cdid) (put_for settings (facts_in settings state) peer exchange path body))
+            (option_any (put_for_takes settings (facts_in settings state) peer exchange path body) (domain_for settings (role_of settings peer) path.cdid)) }
         ensures ready { IfOk result (λ verdict. CanCarryOut verdict self.now) }
     {
         let mid = path.mid;
@@ -198,7 +203,7 @@ impl Server {
         requires acts { may_act self.now.settings (role_of self.now.settings from.peer) from.domain ≡ true }
         requires waits { (body.trigger || is_client_of (role_of self.now.settings from.peer) from.domain) ≡ true }
         ensures decides { (settings : SettingsValue) (state : State) → Represents self.now settings state
-            → IfOk result (λ verdict. verdict ≡ with_mid from.exchange mid (put_in settings (facts_in settings state) from body)) }
+            → Yields result (with_mid from.exchange mid (put_in settings (facts_in settings state) from body)) (option_any (put_in_takes settings (facts_in settings state) from body) mid) }
         ensures ready { IfOk result (λ verdict. CanCarryOut verdict self.now) }
     {
         match mid {
@@ -221,6 +226,8 @@ impl Server {
         ensures does { (settings : SettingsValue) (state : State) → Represents self.now settings state
             → IfOk result (λ decision. Does settings peer state.observers (in_known (domain_for settings (role_of settings peer) path.cdid) (asked_in peer exchange content path observe))
             (in_domain exchange (domain_for settings (role_of settings peer) path.cdid) (get_for (facts_in settings state) peer exchange path content)) decision.watching decision.verdict) }
+        ensures lacks { (settings : SettingsValue) (state : State) → Represents self.now settings state
+            → OnErr result (is_made (in_domain exchange (domain_for settings (role_of settings peer) path.cdid) (get_for (facts_in settings state) peer exchange path content)) ≡ true) }
         ensures ready { IfOk result (λ decision. CanCarryOut decision.verdict self.now) }
         ensures may { IfOk result (λ decision. MayObserve self.now.watch.observers.pairs decision.watching) }
     {
@@ -243,6 +250,8 @@ impl Server {
         ensures does { (settings : SettingsValue) (state : State) → Represents self.now settings state
             → IfOk result (λ decision. Does settings from.peer state.observers (asked_from from mid content observe)
             (get_answer (facts_in settings state) from mid content) decision.watching decision.verdict) }
+        ensures lacks { (settings : SettingsValue) (state : State) → Represents self.now settings state
+            → OnErr result (is_made (get_answer (facts_in settings state) from mid content) ≡ true) }
         ensures ready { IfOk result (λ decision. CanCarryOut decision.verdict self.now) }
         ensures may { IfOk result (λ decision. MayObserve self.now.watch.observers.pairs decision.watching) }
     {
@@ -294,7 +303,7 @@ impl Server {
     ) -> Result<Verdict, NoMemory>
         requires own { IsOwn self.now.settings peer own }
         ensures decides { (settings : SettingsValue) (state : State) → Represents self.now settings state
-            → IfOk result (λ verdict. verdict ≡ in_domain exchange (domain_for settings (role_of settings peer) path.cdid) (delete_for (facts_in settings state) peer exchange path)) }
+            → YieldsMade result (in_domain exchange (domain_for settings (role_of settings peer) path.cdid) (delete_for (facts_in settings state) peer exchange path)) }
         ensures ready { IfOk result (λ verdict. CanCarryOut verdict self.now) }
     {
         let mid = path.mid;
@@ -308,7 +317,7 @@ impl Server {
     fn delete_with_mid(&self, from: &ClientRequest, mid: Option<u32>) -> Result<Verdict, NoMemory>
         requires acts { may_act self.now.settings (role_of self.now.settings from.now.peer) from.now.domain ≡ true }
         ensures decides { (settings : SettingsValue) (state : State) → Represents self.now settings state
-            → IfOk result (λ verdict. verdict ≡ with_mid from.now.exchange mid (delete_in (facts_in settings state) from.now)) }
+            → YieldsMade result (with_mid from.now.exchange mid (delete_in (facts_in settings state) from.now)) }
         ensures ready { IfOk result (λ verdict. CanCarryOut verdict self.now) }
     {
         match mid {
@@ -368,7 +377,8 @@ fn unobserved(verdict: Verdict) -> Decision
 
 /// The same, of what is decided.
 fn alone(decided: Result<Verdict, NoMemory>) -> Result<Decision, NoMemory>
-    ensures { IfOk result (λ decision. (decision.watching ≡ watchings.Nothing) × (decided ≡ Ok decision.verdict)) }
+    ensures ok { IfOk result (λ decision. (decision.watching ≡ watchings.Nothing) × (decided ≡ Ok decision.verdict)) }
+    ensures err { IfErr result (λ fault. decided ≡ Err fault) }
 {
     match decided {
         Ok(verdict) => Ok(unobserved(verdict)),

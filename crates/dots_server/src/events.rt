@@ -13,7 +13,10 @@ ghost use Rattle.dots_machine.specs.Machine.{State};
 ghost use Rattle.dots_machine.specs.Endings.{IsSized};
 ghost use Rattle.dots_server.specs.ServerValues.{Represents, RestartsWith};
 ghost use Rattle.dots_server.specs.Running.{Came, IsFollowed, StopsFor, FailsOnlyFor, stop_of};
+ghost use Rattle.dots_server.specs.ServerValues.{ServerValue};
+ghost use Rattle.dots_server.specs.Onlooking.{RunIsSeen};
 
+use crate::onlooking::{Onlooker, show};
 use crate::server::Server;
 use dots_host::{Host, MAX_EVENT_BYTES, What};
 use dots_machine::Stop;
@@ -22,8 +25,13 @@ use dots_machine::Stop;
 const MAX_EVENTS: u64 = 1 << 40;
 
 /// Takes one event after the other, and answers the server as it is at End; else how the events stopped. The room has the bytes of one
-/// event.
-pub fn take_events<H: Host>(server: Server, host: &mut H, room: &mut [u8]) -> Result<Server, Stop>
+/// event. Behind each tick the server is shown to the onlooker.
+pub fn take_events<H: Host, W: Onlooker>(
+    server: Server,
+    host: &mut H,
+    room: &mut [u8],
+    onlooker: &mut W,
+) -> Result<Server, Stop>
     requires room { length room.old ≡ MAX_EVENT_BYTES }
     requires size { needed_of server.journal.slots ≤ H.extent host.old }
     // A run of the machine, where the disk is told, or where the acts are and none is a restart. Where the disk is told, and rested, the run
@@ -33,6 +41,11 @@ pub fn take_events<H: Host>(server: Server, host: &mut H, room: &mut [u8]) -> Re
         → (end : Owing State) × Came settings start (stop_of result) (H.media host.old) (H.media host.new) (RestsWith (H.media host.old) (journal.Represents server.journal settings stored))
         (H.acts host.old) (H.acts host.new) end
         × IfOk result (λ server. Represents server settings end.last) }
+    // What the onlooker saw: at each tick a server that represents the state after it, and nothing else.
+    ensures seen { (settings : SettingsValue) (start : State) (stored : List Entry) → RestartsWith server settings start stored
+        → IsFollowed (RestsWith (H.media host.old) (journal.Represents server.journal settings stored)) (H.acts host.old) (H.acts host.new)
+        → (trace : List State) × (end : Owing State) × (seen : List ServerValue) × W.sees onlooker.old onlooker.new seen
+        × Added (H.acts host.old) (H.acts host.new) (RunIsSeen settings start trace end (stop_of result) seen) }
     ensures adds { Added (H.acts host.old) (H.acts host.new) (λ _. ⊤) }
     ensures settings { IfOk result (λ now. now.settings ≡ server.settings) }
     ensures stopped { IfErr result (λ how. StopsFor how (Rose (H.Wire.faults host.old) (H.Wire.faults host.new)) (Rose (H.Disk.faults host.old) (H.Disk.faults host.new))) }
@@ -56,7 +69,7 @@ pub fn take_events<H: Host>(server: Server, host: &mut H, room: &mut [u8]) -> Re
                 Err(fault) => return Err(Stop::Unrecovered(fault)),
             },
             _ => match server.handle(host, &got, room) {
-                Ok(()) => {}
+                Ok(()) => show(&server, got.what, onlooker),
                 Err(_) => {
                     server.let_go();
                     return Err(Stop::DiskFailed);

@@ -7,7 +7,7 @@
 //! (`signals`). Each of these entries is on the disk before anything is sent. Then the heartbeats that are due are sent (`beating`). A
 //! client has two connections at most (`connections`), and what comes on one is answered request by request, each in a turn of its own (`pieces`, over
 //! `dots_data`). The report has a line for each row of a mitigation that filters, and one for each sample packet (`report`), gathered in a block on the way to its sink
-//! (`gathering`). Each reply of the signal channel is made in `replies`, with what an entry keeps of the one that granted it (`entries`).
+//! (`gathering`). At each tick the server is shown to an [`Onlooker`] (`onlooking`). Each reply of the signal channel is made in `replies`, with what an entry keeps of the one that granted it (`entries`).
 #![tactic(auto)]
 
 mod beating;
@@ -22,6 +22,7 @@ mod long_replies;
 mod mitigations;
 mod naming;
 mod observing;
+mod onlooking;
 mod pieces;
 mod receiving;
 mod remembered_replies;
@@ -32,4 +33,5 @@ mod signals;
 mod verdict;
 
 pub use events::take_events;
+pub use onlooking::{Nobody, Onlooker};
 pub use server::{ReportFault, Server};

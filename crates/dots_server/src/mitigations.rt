@@ -1,6 +1,6 @@
 //! What a server decides on requests for mitigations.
 
-ghost use Rattle.std.specs.Prelude.{◌≡◌, ◌≢◌, ◌≤◌, ◌<◌, ◌||◌, List, ◌++◌, ◌∷◌, [], map, filter, length, true, false, IfOk, OnOk, None, Err};
+ghost use Rattle.std.specs.Prelude.{◌≡◌, ◌≢◌, ◌≤◌, ◌<◌, ◌||◌, ◌⊎◌, List, ◌++◌, ◌∷◌, [], map, filter, length, true, false, IfOk, OnOk, OnErr, None, Err};
 ghost use Rattle.dots_keys.specs.Askable.{IsAskableBody};
 ghost use Rattle.dots_settings.specs.Settings.{SettingsValue};
 ghost use Rattle.dots_settings.specs.Lookups.{role_of, prefixes_of};
@@ -22,6 +22,7 @@ ghost use Rattle.dots_machine.specs.Deciding.{delete_in};
 ghost use Rattle.conflict_rules.specs.LiveViews.{LiveView};
 ghost use Rattle.live_mitigations.specs.LiveViews.{row_view};
 ghost use Rattle.conflict_rules.specs.Statuses.{is_standing, views_in};
+ghost use Rattle.dots_server.specs.LackingMemory.{is_made, put_takes, Yields, YieldsMade, YieldsJudged};
 ghost use Rattle.dots_server.specs.ServerValues.{Represents, CanCarryOut};
 ghost use Rattle.dots_server.specs.MitigationReading.{read_as, CanAnswer};
 
@@ -56,7 +57,7 @@ impl Server {
         requires acts { may_act self.now.settings (role_of self.now.settings asked.from.peer) asked.from.domain ≡ true }
         requires waits { (asked.body.trigger || is_client_of (role_of self.now.settings asked.from.peer) asked.from.domain) ≡ true }
         ensures decides { (settings : SettingsValue) (state : State) → Represents self.now settings state
-            → IfOk result (λ verdict. verdict ≡ put_answer settings (facts_in settings state) asked) }
+            → Yields result (put_answer settings (facts_in settings state) asked) (put_takes settings (facts_in settings state) asked) }
         ensures ready { IfOk result (λ verdict. CanCarryOut verdict self.now) }
     {
         self.decide_asked(&asked)
@@ -68,7 +69,7 @@ impl Server {
         requires acts { may_act self.now.settings (role_of self.now.settings asked.now.from.peer) asked.now.from.domain ≡ true }
         requires waits { (asked.now.body.trigger || is_client_of (role_of self.now.settings asked.now.from.peer) asked.now.from.domain) ≡ true }
         ensures decides { (settings : SettingsValue) (state : State) → Represents self.now settings state
-            → IfOk result (λ verdict. verdict ≡ put_answer settings (facts_in settings state) asked.now) }
+            → Yields result (put_answer settings (facts_in settings state) asked.now) (put_takes settings (facts_in settings state) asked.now) }
         ensures ready { IfOk result (λ verdict. CanCarryOut verdict self.now) }
     {
         let domain = self.settings.prefixes_of(asked.from.domain);
@@ -89,7 +90,7 @@ impl Server {
         requires waits { (asked.now.body.trigger || is_client_of (role_of self.now.settings asked.now.from.peer) asked.now.from.domain) ≡ true }
         requires clear { scope_fault self.now.settings (prefixes_of self.now.settings asked.now.from.domain) asked.now.body.asked ≡ None }
         ensures decides { (settings : SettingsValue) (state : State) → Represents self.now settings state
-            → IfOk result (λ verdict. verdict ≡ judged state.time asked.now (judge_request settings state.time state.history asked.now.from.domain (request_of asked.now))) }
+            → YieldsJudged result state.time asked.now (judge_request settings state.time state.history asked.now.from.domain (request_of asked.now)) }
         ensures ready { IfOk result (λ verdict. CanCarryOut verdict self.now) }
     {
         match self.judged(asked) {
@@ -152,6 +153,7 @@ impl Server {
     fn refuse(&self, exchange: &Exchange, mid: u32, fault: PutFault) -> Result<Verdict, NoMemory>
         ensures verdict { IfOk result (λ verdict. verdict ≡ refusal exchange.now mid fault) }
         ensures known { OnOk result (fault ≢ faults.NoMemory) }
+        ensures lacks { OnErr result ((fault ≡ faults.NoMemory) ⊎ (is_made (refusal exchange.now mid fault) ≡ true)) }
         ensures ready { IfOk result (λ verdict. CanCarryOut verdict self.now) }
     {
         match fault {
@@ -174,7 +176,7 @@ impl Server {
     pub(crate) fn decide_delete(&self, from: &ClientRequest, mid: u32) -> Result<Verdict, NoMemory>
         requires acts { may_act self.now.settings (role_of self.now.settings from.now.peer) from.now.domain ≡ true }
         ensures decides { (settings : SettingsValue) (state : State) → Represents self.now settings state
-            → IfOk result (λ verdict. verdict ≡ delete_in (facts_in settings state) from.now mid) }
+            → YieldsMade result (delete_in (facts_in settings state) from.now mid) }
         ensures ready { IfOk result (λ verdict. CanCarryOut verdict self.now) }
     {
         let known = self.remembered(from.peer, from.domain, &from.exchange);
@@ -188,7 +190,7 @@ impl Server {
     fn judge_delete(&self, from: &ClientRequest, mid: u32) -> Result<Verdict, NoMemory>
         requires acts { may_act self.now.settings (role_of self.now.settings from.now.peer) from.now.domain ≡ true }
         ensures decides { (settings : SettingsValue) (state : State) → Represents self.now settings state
-            → IfOk result (λ verdict. verdict ≡ delete_answer (facts_in settings state) from.now mid) }
+            → YieldsMade result (delete_answer (facts_in settings state) from.now mid) }
         ensures ready { IfOk result (λ verdict. CanCarryOut verdict self.now) }
     {
         if self.is_taken(from) {
@@ -219,6 +221,8 @@ impl Server {
         requires acts { may_act self.now.settings (role_of self.now.settings from.now.peer) from.now.domain ≡ true }
         ensures decides { (settings : SettingsValue) (state : State) → Represents self.now settings state
             → IfOk result (λ reading. read_as from.now.exchange reading ≡ get_answer (facts_in settings state) from.now mid content) }
+        ensures lacks { (settings : SettingsValue) (state : State) → Represents self.now settings state
+            → OnErr result (is_made (get_answer (facts_in settings state) from.now mid content) ≡ true) }
         ensures ready { IfOk result (λ reading. CanAnswer reading self.now) }
     {
         if self.is_taken(from) {
@@ -284,8 +288,10 @@ impl Server {
         content: Content,
     ) -> Result<ViewList<'a>, NoMemory>
         requires acts { may_act self.now.settings (role_of self.now.settings from.now.peer) from.now.domain ≡ true }
-        ensures { (settings : SettingsValue) (state : State) → Represents self.now settings state
+        ensures told { (settings : SettingsValue) (state : State) → Represents self.now settings state
             → IfOk result (λ views. map scope_of views ≡ map (mitigation_fields content) (filter (is_wanted mid) ((facts_in settings state).views (client_for from.now)))) }
+        ensures lacks { (settings : SettingsValue) (state : State) → Represents self.now settings state
+            → OnErr result (filter (is_wanted mid) ((facts_in settings state).views (client_for from.now)) ≢ []) }
     {
         views_of(
             self.alloc,
@@ -317,8 +323,10 @@ pub(crate) fn views_of<'a>(
     content: Content,
 ) -> Result<ViewList<'a>, NoMemory>
     requires within { domain < domains_of tables.now }
-    ensures { (entries : List Entry) → registry.Represents tables.now entries
+    ensures told { (entries : List Entry) → registry.Represents tables.now entries
         → IfOk result (λ views. map scope_of views ≡ map (mitigation_fields content) (filter (is_wanted mid) (views_in domain cuid.now (time_of tables.now) entries))) }
+    ensures lacks { (entries : List Entry) → registry.Represents tables.now entries
+        → OnErr result (filter (is_wanted mid) (views_in domain cuid.now (time_of tables.now) entries) ≢ []) }
 {
     let mut views = List::new(alloc);
     for row in tables.mitigations(domain, cuid.bytes()) {
@@ -341,7 +349,8 @@ fn push_wanted<'a>(
     mid: Option<u32>,
     content: Content,
 ) -> Result<(), NoMemory>
-    ensures { OnOk result (map scope_of views.new ≡ map scope_of views.old ++ map (mitigation_fields content) (filter (is_wanted mid) (row_view row.now ∷ []))) }
+    ensures told { OnOk result (map scope_of views.new ≡ map scope_of views.old ++ map (mitigation_fields content) (filter (is_wanted mid) (row_view row.now ∷ []))) }
+    ensures lacks { OnErr result (is_wanted mid (row_view row.now) ≡ true) }
 {
     if !is_wanted(mid, row.put.mid) {
         return Ok(());

@@ -21,7 +21,7 @@ ghost use Rattle.slot_journal.specs.declared.fault.JournalFault.TheVariants as f
 ghost use Rattle.slot_journal.specs.Untaken.{RefusesLedger, IsFailure};
 ghost use Rattle.dots_machine.specs.Machine.{State, begun_from, later, restarted, sends_of, after, with_entry, beating, Hears};
 ghost use Rattle.dots_machine.specs.Report.{report_of};
-ghost use Rattle.dots_registry.specs.RegistryValues.{time_of};
+ghost use Rattle.dots_registry.specs.RegistryValues.{IsOf, time_of};
 ghost use Rattle.dots_registry.specs.ObserverViews.{views_of};
 ghost use Rattle.session_core.specs.Contacts.{heard_from, unheard, number_of};
 ghost use Rattle.session_core.specs.Beats.{beats};
@@ -162,6 +162,15 @@ impl Server {
     {
         let alloc = self.alloc;
         Server::begin(alloc, self.into_settings(), host, at)
+    }
+
+    /// The settings under which it serves.
+    pub fn settings(&self) -> &Settings
+        ensures value { result.now ≡ self.now.settings }
+        // Its tables are of these.
+        ensures tables { IsOf self.now.settings self.now.registry }
+    {
+        &self.settings
     }
 
     /// The settings again. Takes no memory.

@@ -8,7 +8,7 @@ use Rattle.slot_journal.specs.DiskEntries as journal
 use Rattle.dots_machine.specs.Machine.{State}
 use Rattle.dots_machine.specs.Endings.{AnyRestart}
 use Rattle.dots_server.specs.ServerValues.{RestartsWith}
-use Rattle.dots_server.proofs.Turns.{LivesOn}
+use Rattle.dots_server.proofs.Looks.{SeenOn}
 use Rattle.dots_server.proofs.events.take_events.Given as goal
 
 -- What is known of the run so far: where the disk rested at its start; and whatever the disk told, unless a restart was taken.
@@ -21,10 +21,10 @@ invariant-loop-turn g l = record {
   settings : l.server.settings ≡ l.fn.server.settings;
   adds : Added (g.H.Wire.acts l.fn.host) (g.H.Wire.acts l.host) (λ _. Unit {0});
   rested : (settings : SettingsValue) (start : State) (stored : List Entry) → RestartsWith l.fn.server settings start stored → RestsWith (g.H.Disk.media l.fn.host) (journal.Represents l.fn.server.journal settings stored)
-      → LivesOn settings start l.server l._turn (RestsWith (g.H.Disk.media l.fn.host) (journal.Represents l.fn.server.journal settings stored)) (g.H.Disk.media l.fn.host) (g.H.Disk.media l.host)
-      (g.H.Wire.acts l.fn.host) (g.H.Wire.acts l.host);
+      → SeenOn g.W.Onlooker.sees settings start l.server l._turn (RestsWith (g.H.Disk.media l.fn.host) (journal.Represents l.fn.server.journal settings stored)) (g.H.Disk.media l.fn.host) (g.H.Disk.media l.host)
+      (g.H.Wire.acts l.fn.host) (g.H.Wire.acts l.host) l.fn.onlooker l.onlooker;
   lives : (settings : SettingsValue) (start : State) (stored : List Entry) → RestartsWith l.fn.server settings start stored
       → Added (g.H.Wire.acts l.fn.host) (g.H.Wire.acts l.host) AnyRestart
-      ⊎ LivesOn settings start l.server l._turn (RestsWith (g.H.Disk.media l.fn.host) (journal.Represents l.fn.server.journal settings stored)) (g.H.Disk.media l.fn.host) (g.H.Disk.media l.host)
-      (g.H.Wire.acts l.fn.host) (g.H.Wire.acts l.host);
+      ⊎ SeenOn g.W.Onlooker.sees settings start l.server l._turn (RestsWith (g.H.Disk.media l.fn.host) (journal.Represents l.fn.server.journal settings stored)) (g.H.Disk.media l.fn.host) (g.H.Disk.media l.host)
+      (g.H.Wire.acts l.fn.host) (g.H.Wire.acts l.host) l.fn.onlooker l.onlooker;
 }

@@ -18,7 +18,7 @@ returns-then-observer-domains c =
     let tables : RegistryValue = c.self.inside.registry.now in
     let inside : observer.domain < domains_of tables = subst (λ n. observer.domain < n) (c.domains.ensures.number ∙ sym shown.domains) c.if-observer-domains.true in
     let views_are =
-    c.in_ok-views.ensures shown.history shown.represents
+    c.in_ok-views.ensures.told shown.history shown.represents
     ∙ ap (λ (views : List LiveView). map (mitigation_fields observer.content) (filter (is_wanted observer.mid) views)) (views_by_is tables shown.history observer.domain observer.cuid shown.represents inside) in
     subst (λ (shown : ServerViewsValue). IfOk c.retrieved_body.result (λ body. body ≡ bodies_of shown.registry observer)) c.self.view_is
     (subst (λ (trees : List Tree). IfOk c.retrieved_body.result (λ body. body ≡ canon (mitigations_with trees))) views_are c.retrieved_body.ensures)

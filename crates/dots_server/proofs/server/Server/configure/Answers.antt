@@ -14,7 +14,9 @@ use Rattle.dots_machine.specs.Replies.{configuring, out_of_range}
 use Rattle.dots_machine.specs.ConfiguredPeers.{sid_of, is_held, configured_in}
 use Rattle.dots_machine.specs.Deciding.{config_entry, config_answer}
 use Rattle.dots_server.specs.ServerValues.{ServerValue, Represents}
+use Rattle.dots_server.specs.LackingMemory.{is_made}
 use Rattle.dots_server.proofs.Verdicts.{if_ok}
+use Rattle.dots_server.proofs.Yielding.{made_yields}
 use Rattle.dots_server.proofs.HearingPeers.{configured_here, sid_found, setting_configures, taken_within}
 use Rattle.dots_server.proofs.server.Server.configure.Goals as goal
 
@@ -36,13 +38,15 @@ returns-in-Ok-clause-decides c = λ settings state represents.
     let sid_is = sid_found c.config-held.result ∙ ap sid_of found in
     let answered = ap (λ kept. negotiated kept c.args.sid c.args.body.now) (sym sid_is) ∙ sym c.negotiate.ensures in
     let made = c.configuring-reply.ensures ∙ ap (configuring c.args.exchange.now) (c.is_held.ensures ∙ ap (is_held c.args.sid) found) in
-    if_ok c.accept_config.result _ _
+    made_yields c.accept_config.result _
+    (ap (λ r. is_made (config_answer state.time c.args.peer c.args.domain c.args.exchange.now c.args.sid (is_held c.args.sid configured) r)) (answered ∙ c.in-Ok.is))
+    (if_ok c.accept_config.result _ _
     (λ v is.
     is
     ∙ ap (λ t. verdict.Accept c.configuring-reply.result (config_entry t c.args.peer c.args.domain c.args.exchange.now c.configuring-reply.result (change.SetConfig c.args.sid c.in-Ok.config))) represents.time_is
     ∙ ap (λ reply. verdict.Accept reply (config_entry state.time c.args.peer c.args.domain c.args.exchange.now reply (change.SetConfig c.args.sid c.in-Ok.config))) made
     ∙ ap (config_answer state.time c.args.peer c.args.domain c.args.exchange.now c.args.sid (is_held c.args.sid configured)) (sym (answered ∙ c.in-Ok.is)))
-    c.accept_config.ensures.verdict
+    c.accept_config.ensures.verdict)
 
 pub returns-in-Err-Range-clause-decides : goal.returns-in-Err-Range-clause-decides
 returns-in-Err-Range-clause-decides c = λ settings state represents.

@@ -13,4 +13,4 @@ returns-in-Ok-clause-does c = λ settings state represents.
 pub returns-in-Err-clause-does : goal.returns-in-Err-clause-does
 returns-in-Err-clause-does c = λ settings state represents.
     rw (c.in-Asked.is, c.unobserved-in-Err.ensures, c.unavailable.ensures)
-    (verdict.Reply (unavailable c.in-Asked.exchange), inr refl, lacking_does settings c.args.peer state.observers c.in-Asked.exchange c.in-Asked.request)
+    (verdict.Reply (unavailable c.in-Asked.exchange), inr (c.in-Err.ensures.lacks settings state represents, refl), lacking_does settings c.args.peer state.observers c.in-Asked.exchange c.in-Asked.request)

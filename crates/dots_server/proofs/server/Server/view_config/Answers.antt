@@ -12,7 +12,10 @@ use Rattle.dots_machine.specs.Replies.{configuration_reply}
 use Rattle.dots_machine.specs.ConfiguredPeers.{configured_in}
 use Rattle.dots_server.specs.ServerValues.{ServerValue, Represents}
 use Rattle.dots_server.specs.HearingPeers.{is_wanted}
+use Rattle.dots_server.specs.LackingMemory.{is_made}
 use Rattle.dots_server.proofs.HearingPeers.{configured_here, view_wanted, view_absent}
+use Rattle.dots_server.proofs.Verdicts.{if_ok}
+use Rattle.dots_server.proofs.Yielding.{made_yields}
 use Rattle.dots_server.proofs.server.Server.view_config.Goals as goal
 
 pub returns-then-is_wanted-clause-decides : goal.returns-then-is_wanted-clause-decides
@@ -24,8 +27,9 @@ returns-then-is_wanted-clause-decides c = λ settings state represents.
     configured_here server settings state here c.args.peer c.args.domain may (option_map config_now c.config-held.result)
     (subst (λ tables. (entries : List Entry) → registry.Represents tables entries → option_map config_now c.config-held.result ≡ config_of c.args.peer (held entries)) c.registry.ensures c.config-held.ensures) in
     let configured = configured_in state.history c.args.domain c.args.peer in
-    ap verdict.LongReply (c.in_ok-configuration_reply.ensures ∙ ap (configuration_reply c.args.exchange.now) found)
-    ∙ sym (view_wanted c.args.exchange.now c.args.sid configured (ap (is_wanted c.args.sid) (sym found) ∙ sym c.is_wanted.ensures ∙ c.if-is_wanted.true))
+    let wanted = view_wanted c.args.exchange.now c.args.sid configured (ap (is_wanted c.args.sid) (sym found) ∙ sym c.is_wanted.ensures ∙ c.if-is_wanted.true) in
+    made_yields c.tell_config.result _ (ap is_made wanted)
+    (if_ok c.tell_config.result _ _ (λ v is. is ∙ ap (λ kept. verdict.LongReply (configuration_reply c.args.exchange.now kept)) found ∙ sym wanted) c.tell_config.ensures.verdict)
 
 pub returns-clause-decides : goal.returns-clause-decides
 returns-clause-decides c = λ settings state represents.

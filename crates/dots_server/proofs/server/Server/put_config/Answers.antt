@@ -1,0 +1,24 @@
+use Rattle.std.proofs.Common.{◌≡◌, subst}
+use Rattle.dots_settings.specs.Lookups.{role_of}
+use Rattle.dots_machine.specs.MessageRepeats.{sent_for}
+use Rattle.dots_machine.specs.ConfiguredPeers.{sid_of, is_held, configured_in}
+use Rattle.dots_machine.specs.Deciding.{config_answer, put_config_for}
+use Rattle.dots_machine.specs.Machine.{facts_in}
+use Rattle.session_core.specs.Negotiating.{negotiated}
+use Rattle.dots_server.specs.Asking.{role_with}
+use Rattle.dots_server.proofs.Verdicts.{in_session}
+use Rattle.dots_server.proofs.Yielding.{yields_so, repeats_none}
+use Rattle.dots_server.proofs.server.Server.put_config.Goals as goal
+
+pub returns-clause-decides : goal.returns-clause-decides
+returns-clause-decides c = λ settings state represents.
+    let peer = c.args.peer in
+    let domain = c.config_domain-domain.result in
+    let x = c.args.exchange.now in
+    let configured = configured_in state.history domain peer in
+    yields_so c.configure.result _ _
+    (in_session settings peer x c.args.own (subst (λ s. role_of s peer ≡ role_with c.args.own) represents.settings_are c.requires.own.role) domain c.config_domain-domain.ensures.domain
+    (put_config_for (facts_in settings state) peer x c.args.sid c.args.body.now))
+    (repeats_none c.configure.result ((facts_in settings state).repeated (sent_for peer x domain))
+    (config_answer state.time peer domain x c.args.sid (is_held c.args.sid configured) (negotiated (sid_of configured) c.args.sid c.args.body.now))
+    (c.in_default.ensures settings state represents) (c.configure.ensures.decides settings state represents))
