@@ -2,6 +2,7 @@ pub mod Places
 pub mod Histories
 pub mod EndpointLemmas
 pub mod Numbers
+pub mod PathLemmas
 pub mod ReadTo
 pub mod Views
 pub mod CallLemmas

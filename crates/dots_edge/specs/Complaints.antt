@@ -1,5 +1,5 @@
 -- What is to be mended in a line that says nothing: the first field that isn't what it has to be, and why.
-use Rattle.std.specs.Prelude.{◌≡◌, ◌≢◌, ◌⊎◌, ℕ, ◌-◌, ◌^◌, ◌<◌, ◌≤◌, ◌||◌, List, [], ◌∷◌, bytes_eq, codes, decimal, Option, Some, None, MatchOption, IsUtf8}
+use Rattle.std.specs.Prelude.{◌≡◌, ◌≢◌, ◌⊎◌, ℕ, ◌-◌, ◌^◌, ◌<◌, ◌≤◌, Bool, ◌||◌, List, [], ◌∷◌, bytes_eq, codes, decimal, Option, Some, None, MatchOption, IsUtf8}
 use Rattle.std.specs.Bool.{MatchBool}
 use Rattle.ip_scope.specs.declared.address.Addr.{Addr}
 use Rattle.dots_lists.specs.Lines.{fields_of}
@@ -50,11 +50,16 @@ JudgesPeer rest found = MatchOption found
     ⊎ (((complaint ≡ of_field reason.Peer 1) × (digits text : List ℕ) × (rest ≡ digits ∷ text ∷ []) × ((number : ℕ) → number < 2 ^ 32 - 1 → digits ≢ decimal number))
     ⊎ ((complaint ≡ of_field reason.PeerEnd 2) × (digits text : List ℕ) × (rest ≡ digits ∷ text ∷ []) × ((address : Addr) (port : Option ℕ) → ¬ (IsPeerText text address port)))))
 
+-- behind the word stands a path
+abbrev pub names_file : List ℕ → Bool
+names_file word =
+    bytes_eq word (codes "journal") || (bytes_eq word (codes "filters") || bytes_eq word (codes "filters-nft"))
+
 -- of all fields of a line: by its first word, or that this is none
 abbrev pub Judges : List (List ℕ) → Option Complaint → Type 0
 Judges [] found = ⊥
 Judges (word ∷ rest) found =
-    MatchBool (bytes_eq word (codes "journal")) (JudgesPath rest found)
+    MatchBool (names_file word) (JudgesPath rest found)
     (MatchBool (bytes_eq word (codes "reserve")) (JudgesBytes rest found)
     (MatchBool (bytes_eq word (codes "signal") || bytes_eq word (codes "http")) (JudgesEnd rest found)
     (MatchBool (bytes_eq word (codes "peer")) (JudgesPeer rest found)

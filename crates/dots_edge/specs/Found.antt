@@ -1,6 +1,6 @@
 -- The lines of which a host file has one.
 use Rattle.std.specs.Prelude.{ℕ, Bool, true, false, List, [], ◌∷◌, Option, Some, None}
-use Rattle.dots_edge.specs.HostLine.{LineValue, journal_line, reserve_line, events_line}
+use Rattle.dots_edge.specs.HostLine.{LineValue, journal_line, reserve_line, events_line, filters_line, filters_nft_line}
 
 -- how many events the first line that says it lets come
 abbrev pub events_in : List LineValue → Option ℕ
@@ -24,3 +24,15 @@ abbrev pub reserve_in : List LineValue → Option ℕ
 reserve_in [] = None
 reserve_in (reserve_line bytes ∷ values) = Some bytes
 reserve_in (value ∷ values) = reserve_in values
+
+-- the path of the first line that says where the filters are written
+abbrev pub filters_in : List LineValue → Option (List ℕ)
+filters_in [] = None
+filters_in (filters_line path ∷ values) = Some path
+filters_in (value ∷ values) = filters_in values
+
+-- the path of the first line that says where the script of the filters is written
+abbrev pub filters_nft_in : List LineValue → Option (List ℕ)
+filters_nft_in [] = None
+filters_nft_in (filters_nft_line path ∷ values) = Some path
+filters_nft_in (value ∷ values) = filters_nft_in values

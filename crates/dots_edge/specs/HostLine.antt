@@ -1,5 +1,5 @@
 -- What a line of the host file says, and the text of each.
-use Rattle.std.specs.Prelude.{◌≡◌, ◌≢◌, ℕ, ◌+◌, ◌-◌, ◌^◌, ◌<◌, ◌≤◌, Bool, true, false, ◌==◌, ◌&&◌, ◌||◌, if◌then◌else◌, List, [], ◌∷◌, ◌++◌, codes, decimal, Option, Some, None, MatchOption, IsUtf8}
+use Rattle.std.specs.Prelude.{◌≡◌, ◌≢◌, ℕ, ◌+◌, ◌-◌, ◌^◌, ◌<◌, ◌≤◌, Bool, true, false, ◌==◌, ◌&&◌, ◌||◌, if◌then◌else◌, List, [], ◌∷◌, ◌++◌, bytes_eq, codes, decimal, Option, Some, None, MatchOption, IsUtf8}
 use Rattle.ip_scope.specs.declared.address.Addr.{Addr}
 use Rattle.ip_scope.specs.declared.family.Family.{Family}
 use Rattle.ip_scope.specs.declared.family.Family.TheVariants.{V4, V6}
@@ -16,6 +16,8 @@ pub data LineValue : Type 0 where
   peer_line : (number : ℕ) → (address : Addr) → (port : Option ℕ) → LineValue
   reserve_line : (bytes : ℕ) → LineValue
   events_line : (count : ℕ) → LineValue
+  filters_line : (path : List ℕ) → LineValue
+  filters_nft_line : (path : List ℕ) → LineValue
 
 -- a line without where its path stands
 abbrev pub line_value : HostLine → LineValue
@@ -25,6 +27,8 @@ line_value (line.Http at) = http_line at
 line_value (line.Peer number address port) = peer_line number address port
 line_value (line.Reserve bytes) = reserve_line bytes
 line_value (line.Events count) = events_line count
+line_value (line.Filters path) = filters_line path.now
+line_value (line.FiltersNft path) = filters_nft_line path.now
 
 -- an address as it stands before a port: one of IPv6 in brackets
 abbrev pub IsHostText : List ℕ → Family → ℕ → Type 0
@@ -51,16 +55,24 @@ word_of (http_line at) = codes "http"
 word_of (peer_line number address port) = codes "peer"
 word_of (reserve_line bytes) = codes "reserve"
 word_of (events_line count) = codes "events"
+word_of (filters_line path) = codes "filters"
+word_of (filters_nft_line path) = codes "filters-nft"
+
+-- one field, which is a path
+abbrev pub ArePath : List (List ℕ) → List ℕ → Type 0
+ArePath fields path = (fields ≡ path ∷ []) × (path ≢ []) × IsUtf8 path
 
 -- and the fields behind it
 abbrev pub AreFields : List (List ℕ) → LineValue → Type 0
-AreFields fields (journal_line path) = (fields ≡ path ∷ []) × (path ≢ []) × IsUtf8 path
+AreFields fields (journal_line path) = ArePath fields path
 AreFields fields (signal_line at) = (text : List ℕ) × (fields ≡ text ∷ []) × IsEndpointText text at.address at.port
 AreFields fields (http_line at) = (text : List ℕ) × (fields ≡ text ∷ []) × IsEndpointText text at.address at.port
 AreFields fields (peer_line number address port) =
     (text : List ℕ) × (fields ≡ decimal number ∷ text ∷ []) × (number < 2 ^ 32 - 1) × IsPeerText text address port
 AreFields fields (reserve_line bytes) = (fields ≡ decimal bytes ∷ []) × (bytes ≤ 2 ^ 30)
 AreFields fields (events_line count) = (fields ≡ decimal count ∷ []) × (count < 10 ^ 19)
+AreFields fields (filters_line path) = ArePath fields path
+AreFields fields (filters_nft_line path) = ArePath fields path
 
 -- the line says this
 pub record Says (text : List ℕ) (value : LineValue) : Type 0 where
@@ -90,15 +102,38 @@ key_of address = key_by address.family address.number
 abbrev pub same_end : Endpoint → Endpoint → Bool
 same_end one other = (key_of one.address == key_of other.address) && (one.port == other.port)
 
--- the lines say one thing: both the journal, both how much of it is reserved, both how many events come, both of one end, or both whose an address is
+-- the name under which a file is written before it is renamed to its path
+abbrev pub beside : List ℕ → List ℕ
+beside path = path ++ codes ".new"
+
+-- the file that the line names
+abbrev pub path_in : LineValue → Option (List ℕ)
+path_in (journal_line path) = Some path
+path_in (filters_line path) = Some path
+path_in (filters_nft_line path) = Some path
+path_in _ = None
+
+-- the paths are one, or the one is the name under which the file of the other is written first
+abbrev pub share_file : Option (List ℕ) → Option (List ℕ) → Bool
+share_file (Some path) (Some other) = bytes_eq path other || (bytes_eq path (beside other) || bytes_eq other (beside path))
+share_file _ _ = false
+
+-- The lines answer one question: both name the journal, both say how much of it is reserved, both how many events come, both name a file of one kind,
+-- both are of one end, or both say whose an address is.
+abbrev pub same_question : LineValue → LineValue → Bool
+same_question (journal_line path) (journal_line other) = true
+same_question (signal_line at) (signal_line other) = same_end at other
+same_question (http_line at) (http_line other) = same_end at other
+same_question (reserve_line bytes) (reserve_line other) = true
+same_question (events_line count) (events_line other) = true
+same_question (filters_line path) (filters_line other) = true
+same_question (filters_nft_line path) (filters_nft_line other) = true
+same_question (peer_line number address port) (peer_line n other p) = key_of address == key_of other
+same_question _ _ = false
+
+-- the lines say one thing: they answer one question, or share a file
 abbrev pub same_thing : LineValue → LineValue → Bool
-same_thing (journal_line path) (journal_line other) = true
-same_thing (signal_line at) (signal_line other) = same_end at other
-same_thing (http_line at) (http_line other) = same_end at other
-same_thing (reserve_line bytes) (reserve_line other) = true
-same_thing (events_line count) (events_line other) = true
-same_thing (peer_line number address port) (peer_line n other p) = key_of address == key_of other
-same_thing _ _ = false
+same_thing one other = same_question one other || share_file (path_in one) (path_in other)
 
 -- both are where datagrams come, or both where connections do
 abbrev pub same_kind : LineValue → LineValue → Bool

@@ -2,7 +2,7 @@
 
 ghost use Rattle.std.specs.Prelude.{◌≡◌, [], ◌∷◌, Some, None};
 ghost use Rattle.dots_lists.specs.Lines.{fields_of};
-ghost use Rattle.dots_edge.specs.Complaints.{JudgesPath, JudgesBytes, JudgesEnd, JudgesPeer, JudgesCount, Judges, JudgesLine, JudgesFault};
+ghost use Rattle.dots_edge.specs.Complaints.{JudgesPath, JudgesBytes, JudgesEnd, JudgesPeer, JudgesCount, names_file, Judges, JudgesLine, JudgesFault};
 
 use crate::endpoint_text::endpoint_of;
 use crate::host_fault::HostFault;
@@ -12,7 +12,7 @@ use dots_lists::{one_field, parse_decimal, split_field, two_fields};
 /// Why a line has none of the forms, or can't stand behind those above it.
 #[derive(Clone, Copy)]
 pub enum Reason {
-    /// The first word is none of `journal`, `reserve`, `signal`, `http`, `peer` and `events`.
+    /// The first word is none of `journal`, `reserve`, `signal`, `http`, `peer`, `events`, `filters` and `filters-nft`.
     Word,
     /// Behind this word stands one field, one space away.
     OneField,
@@ -32,7 +32,7 @@ pub enum Reason {
     Count,
     /// The line has none of the forms.
     Form,
-    /// A line above says this already.
+    /// A line above says this already, or names its file.
     Twice,
     /// Four lines of its kind stand above.
     Many,
@@ -101,7 +101,7 @@ fn judge(line: &[u8]) -> Option<Complaint>
     let Some((word, rest)) = split_field(line) else {
         return judge_alone(line);
     };
-    if is_word(word, b"journal") {
+    if names_file(word) {
         return judge_path(rest);
     }
     if is_word(word, b"reserve") {
@@ -127,13 +127,20 @@ fn judge_alone(line: &[u8]) -> Option<Complaint>
     if is_word(line, b"peer") {
         return Some(Complaint::of_line(Reason::TwoFields));
     }
-    if is_word(line, b"journal") || is_word(line, b"reserve") || is_word(line, b"events") {
+    if names_file(line) || is_word(line, b"reserve") || is_word(line, b"events") {
         return Some(Complaint::of_line(Reason::OneField));
     }
     if is_word(line, b"signal") || is_word(line, b"http") {
         return Some(Complaint::of_line(Reason::OneField));
     }
     Some(Complaint::of_field(Reason::Word, 0))
+}
+
+/// Whether the word is one behind which a path stands.
+fn names_file(word: &[u8]) -> bool
+    ensures { result ≡ names_file word.now }
+{
+    is_word(word, b"journal") || is_word(word, b"filters") || is_word(word, b"filters-nft")
 }
 
 fn judge_path(rest: &[u8]) -> Option<Complaint>

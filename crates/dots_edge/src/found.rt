@@ -2,7 +2,7 @@
 
 ghost use Rattle.std.specs.Prelude.{◌≡◌, map, Some, is_some, IfSome};
 ghost use Rattle.dots_edge.specs.HostLine.{line_value};
-ghost use Rattle.dots_edge.specs.Found.{events_in, has_journal, journal_in, reserve_in};
+ghost use Rattle.dots_edge.specs.Found.{events_in, has_journal, journal_in, reserve_in, filters_in, filters_nft_in};
 
 use crate::host_line::HostLine;
 
@@ -38,6 +38,32 @@ pub fn reserve_in(lines: &[HostLine<'_>]) -> Option<u64>
     for line in lines {
         if let HostLine::Reserve { bytes } = line {
             return Some(*bytes);
+        }
+    }
+    None
+}
+
+/// The path of the file for the filters, as lines of a report, where a line has one.
+pub fn filters_in<'a>(lines: &[HostLine<'a>]) -> Option<&'a str>
+    ensures is_some { is_some result ≡ is_some (filters_in (map line_value lines.now)) }
+    ensures path { IfSome result (λ path. filters_in (map line_value lines.now) ≡ Some path.now) }
+{
+    for line in lines {
+        if let HostLine::Filters { path } = line {
+            return Some(*path);
+        }
+    }
+    None
+}
+
+/// The path of the file for the filters, as a script for `nft -f`, where a line has one.
+pub fn filters_nft_in<'a>(lines: &[HostLine<'a>]) -> Option<&'a str>
+    ensures is_some { is_some result ≡ is_some (filters_nft_in (map line_value lines.now)) }
+    ensures path { IfSome result (λ path. filters_nft_in (map line_value lines.now) ≡ Some path.now) }
+{
+    for line in lines {
+        if let HostLine::FiltersNft { path } = line {
+            return Some(*path);
         }
     }
     None

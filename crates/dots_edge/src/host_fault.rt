@@ -11,7 +11,8 @@ use std::fmt;
 pub enum HostFault {
     /// The line has none of the forms.
     Line { n: u64 },
-    /// What the line gives stands already: the journal, its room, an address and port of its kind, the number of events, or whose an address is.
+    /// What the line gives stands already: the journal, its room, an address and port of its kind, the number of events, a file of its kind, or
+    /// whose an address is. Or its file is, or would be made beside, that of a line before it.
     Twice { n: u64 },
     /// Four lines of its kind stand already: a file has at most four `signal` and four `http` lines.
     Many { n: u64 },

@@ -1,6 +1,7 @@
-ghost use Rattle.std.specs.Prelude.{◌≡◌, ◌==◌, ◌&&◌};
-ghost use Rattle.dots_edge.specs.HostLine.{key_of, line_value, same_end, same_thing, same_kind, is_wildcard, crowds};
+ghost use Rattle.std.specs.Prelude.{◌≡◌, ◌==◌, ◌&&◌, Some, None, MatchOption, bytes_eq};
+ghost use Rattle.dots_edge.specs.HostLine.{key_of, line_value, beside, path_in, share_file, same_end, same_question, same_thing, same_kind, is_wildcard, crowds};
 
+use crate::whole_file::BESIDE;
 use ip_scope::{Addr, Family};
 
 /// An address and a port.
@@ -39,6 +40,14 @@ pub enum HostLine<'a> {
     Events {
         count: u64,
     },
+    /// `filters PATH`: the file in which the filters stand as lines of a report.
+    Filters {
+        path: &'a str,
+    },
+    /// `filters-nft PATH`: the file in which they stand as a script for `nft -f`.
+    FiltersNft {
+        path: &'a str,
+    },
 }
 
 /// The IPv6 addresses that stand for IPv4 ones begin here (RFC 4291, section 2.5.5.2).
@@ -61,9 +70,51 @@ fn same_end(one: Endpoint, other: Endpoint) -> bool
     key_of(one.address) == key_of(other.address) && one.port == other.port
 }
 
-/// Whether the lines say one thing, so that a file has only one of them.
+/// Whether the lines say one thing, so that a file has only one of them: both answer one question, or a file of the one would be written
+/// over that of the other.
 pub fn same_thing(one: &HostLine<'_>, other: &HostLine<'_>) -> bool
     ensures { result ≡ same_thing (line_value one.now) (line_value other.now) }
+{
+    same_question(one, other) || share_file(one, other)
+}
+
+/// Whether the lines name one file, or the one names that which is made beside the file of the other.
+fn share_file(one: &HostLine<'_>, other: &HostLine<'_>) -> bool
+    ensures { result ≡ share_file (path_in (line_value one.now)) (path_in (line_value other.now)) }
+{
+    match (path_of_line(one), path_of_line(other)) {
+        (Some(path), Some(other)) => {
+            path == other || is_beside(path, other) || is_beside(other, path)
+        }
+        _ => false,
+    }
+}
+
+/// The path of the file that the line names.
+fn path_of_line<'a>(line: &HostLine<'a>) -> Option<&'a str>
+    ensures { MatchOption result (path_in (line_value line.now) ≡ None) (λ path. path_in (line_value line.now) ≡ Some path.now) }
+{
+    match line {
+        HostLine::Journal { path } => Some(*path),
+        HostLine::Filters { path } => Some(*path),
+        HostLine::FiltersNft { path } => Some(*path),
+        _ => None,
+    }
+}
+
+/// Whether the path is that of the file which is made beside the other.
+fn is_beside(path: &str, other: &str) -> bool
+    ensures { result ≡ bytes_eq path.now (beside other.now) }
+{
+    match path.as_bytes().strip_suffix(BESIDE.as_bytes()) {
+        Some(front) => front == other.as_bytes(),
+        None => false,
+    }
+}
+
+/// Whether the lines answer one question.
+fn same_question(one: &HostLine<'_>, other: &HostLine<'_>) -> bool
+    ensures { result ≡ same_question (line_value one.now) (line_value other.now) }
 {
     match (one, other) {
         (HostLine::Journal { .. }, HostLine::Journal { .. }) => true,
@@ -71,6 +122,8 @@ pub fn same_thing(one: &HostLine<'_>, other: &HostLine<'_>) -> bool
         (HostLine::Http { at }, HostLine::Http { at: other }) => same_end(*at, *other),
         (HostLine::Reserve { .. }, HostLine::Reserve { .. }) => true,
         (HostLine::Events { .. }, HostLine::Events { .. }) => true,
+        (HostLine::Filters { .. }, HostLine::Filters { .. }) => true,
+        (HostLine::FiltersNft { .. }, HostLine::FiltersNft { .. }) => true,
         (HostLine::Peer { address, .. }, HostLine::Peer { address: other, .. }) => {
             key_of(*address) == key_of(*other)
         }

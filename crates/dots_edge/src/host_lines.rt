@@ -38,6 +38,12 @@ pub fn parse_line(line: &[u8]) -> Option<HostLine<'_>>
     if is_word(word, b"events") {
         return events_of(fields);
     }
+    if is_word(word, b"filters") {
+        return filters_of(fields);
+    }
+    if is_word(word, b"filters-nft") {
+        return filters_nft_of(fields);
+    }
     None
 }
 
@@ -103,6 +109,22 @@ fn events_of(fields: &[u8]) -> Option<HostLine<'_>>
     let digits = one_field(fields)?;
     let count = parse_decimal(digits)?;
     Some(HostLine::Events { count })
+}
+
+fn filters_of(fields: &[u8]) -> Option<HostLine<'_>>
+    ensures { ReadsBehind (codes "filters") fields.now result }
+{
+    let field = one_field(fields)?;
+    let path = path_of(field)?;
+    Some(HostLine::Filters { path })
+}
+
+fn filters_nft_of(fields: &[u8]) -> Option<HostLine<'_>>
+    ensures { ReadsBehind (codes "filters-nft") fields.now result }
+{
+    let field = one_field(fields)?;
+    let path = path_of(field)?;
+    Some(HostLine::FiltersNft { path })
 }
 
 /// The path that the field is: some UTF-8 text.

@@ -2,8 +2,8 @@
 //!
 //! A host file says which. [`read_host_file`] reads it: `specs/HostLine.antt` has the forms of its lines, `specs/HostFile.antt` what the lines come
 //! to, or the first fault, and [`complaint_about`] says of the line at fault which field is to be mended, and why (`specs/Complaints.antt`).
-//! [`FileSocketHost`] opens what it names. `docs/OPERATING.md` says for an operator how
-//! it behaves.
+//! [`FileSocketHost`] opens what it names. Files for other programs are replaced as a whole ([`write_whole_file`]). `docs/OPERATING.md` says for
+//! an operator how it behaves.
 //!
 //! What a socket, a file or a clock does no contract can say. So of the host it is proved that it is safe, that it fails only where it
 //! counts a fault, and what depends on the host file and on the calls alone: whose an address is, when a tick is due, when the end
@@ -63,11 +63,12 @@ mod socket_log;
 mod sockets;
 mod waiting;
 mod way;
+mod whole_file;
 
 pub use complaint::{Complaint, Reason, complaint_about};
 pub use endpoints::Endpoints;
 pub use file_socket_host::FileSocketHost;
-pub use found::{events_in, journal_in, reserve_in};
+pub use found::{events_in, filters_in, filters_nft_in, journal_in, reserve_in};
 pub use getter::Getter;
 pub use getters::MAX_GETTERS;
 pub use head::{Head, read_head};
@@ -78,3 +79,4 @@ pub use journal::room_of;
 pub use journal_reader::{FoundJournal, JournalReader};
 pub use reading::read_host_file;
 pub use way::Way;
+pub use whole_file::write_whole_file;

@@ -9,7 +9,7 @@ pub fn reason_words(reason: Reason) -> &'static [u8]
 {
     match reason {
         Reason::Word =>
-            b"the first word of a line is journal, reserve, signal, http, peer or events",
+            b"the first word of a line is journal, reserve, signal, http, peer, events, filters or filters-nft",
         Reason::OneField => b"behind this word stands one field, with one space between two fields",
         Reason::TwoFields =>
             b"a peer line is: peer NUMBER ADDRESS, or: peer NUMBER ADDRESS:PORT, with one space between two fields",
@@ -21,8 +21,8 @@ pub fn reason_words(reason: Reason) -> &'static [u8]
             b"the address of a peer is as 192.0.2.1 or 2001:db8::1, or with a port as 192.0.2.1:4646 or [2001:db8::1]:4646",
         Reason::Count =>
             b"the number of events is below 10000000000000000000, without leading zeros",
-        Reason::Form => b"a line has one of the six forms",
-        Reason::Twice => b"a line above says this already",
+        Reason::Form => b"a line has one of the nine forms",
+        Reason::Twice => b"a line above says this already, or names its file",
         Reason::Many => b"four lines of this kind stand above",
         Reason::Wildcard =>
             b"a line for all addresses, as with 0.0.0.0 or [::], is the only one of its kind",

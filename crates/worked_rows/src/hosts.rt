@@ -14,4 +14,5 @@ mod late_reader;
 mod scripts;
 mod set_clock;
 mod streams;
+mod whole_files;
 mod words;

@@ -7,7 +7,7 @@ use std::alloc::Global;
 /// Rows stand apart by `==`. The first line of each is how many lines say something, or the fault and its line, and the others are the
 /// host file.
 const FILES: &str = "\
-said 13
+said 15
 # all of them
 journal /var/lib/dots/journal
 reserve 1073741824
@@ -23,6 +23,8 @@ peer 0 2001:db8::1
 peer 4294967294 [2001:db8::2]:65535
 peer 7 192.0.2.2:1
 events 9999999999999999999
+filters /var/lib/dots/filters
+filters-nft /var/lib/dots/filters.nft
 ==
 line 1
 ?
@@ -98,7 +100,47 @@ events 1
 events 1
 ==
 line 1
-events -1";
+events -1
+==
+line 1
+filters
+==
+line 1
+filters-nft a b
+==
+line 2
+filters -
+filters-nft
+==
+line 1
+filter a
+==
+twice 2
+filters a
+filters b
+==
+twice 2
+filters-nft a
+filters-nft b
+==
+twice 3
+journal a
+filters b
+filters-nft a
+==
+twice 2
+journal a.new
+filters a
+==
+twice 3
+events 0
+filters a
+filters-nft a.new
+==
+said 3
+filters b.new
+filters-nft a.ne
+journal a.old.new";
 
 /// What a host file has, and its number.
 fn found(alloc: Global, file: &str) -> (&'static str, u64) {
