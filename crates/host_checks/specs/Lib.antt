@@ -11,3 +11,4 @@ pub mod Migrating
 pub mod Leavings
 pub mod KeptEntries
 pub mod Making
+pub mod Moving

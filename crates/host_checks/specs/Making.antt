@@ -52,7 +52,11 @@ pub record IsMadeFrom (old new : SettingsValue) (now : ℕ) (seen : ℕ → ℕ)
 
 -- ---- a whole image
 
--- no journal is there: its gate isn't open; or all of it is
+-- no journal is there: its gate isn't open; or this one is, byte by byte
+abbrev pub IsNoneOr : (ℕ → ℕ) → (ℕ → ℕ) → Type 0
+IsNoneOr whole image = (image 0 ≢ 165) ⊎ (image ≡ whole)
+
+-- the same of the bytes of a list
 abbrev pub IsNoneOrWhole : List ℕ → (ℕ → ℕ) → Type 0
 IsNoneOrWhole whole image = (image 0 ≢ 165) ⊎ (image ≡ byte_of whole)
 

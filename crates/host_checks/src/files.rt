@@ -28,10 +28,10 @@ use std::fs::{File, Files};
 use std::time::Clock;
 
 /// The most bytes that either file may have.
-const MAX_FILE: usize = 65_536;
+pub(crate) const MAX_FILE: usize = 65_536;
 
 /// How much of a file is read: one byte more than it may have.
-const MAX_READ: usize = MAX_FILE + 1;
+pub(crate) const MAX_READ: usize = MAX_FILE + 1;
 
 /// The greatest second that an entry may have.
 const MAX_SECOND: u64 = 0xffff_ffff_ffff;
@@ -115,7 +115,7 @@ fn check_beside<R: Files<File = File> + Clock>(
     }
 }
 
-fn too_long(alloc: Global) -> Result<Checked, NoMemory>
+pub(crate) fn too_long(alloc: Global) -> Result<Checked, NoMemory>
     ensures { IfOk result (λ told. told ≡ checked.AtFault too_long) }
 {
     let text = Vec::from_slice(alloc, b"fault 6: the host file has more than 65536 bytes\n")?;
@@ -206,7 +206,7 @@ fn filters_said<R: Files<File = File> + Clock>(
 }
 
 /// The second since 1970, below 2^48.
-fn now<R: Clock>(rt: &R) -> u64
+pub(crate) fn now<R: Clock>(rt: &R) -> u64
     ensures { result < 2 ^ 48 }
 {
     match rt.since_1970() {

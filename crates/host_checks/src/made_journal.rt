@@ -25,8 +25,8 @@ use std::alloc::Global;
 /// A journal in memory, and what is to be told of it.
 #[derive(Drop)]
 pub struct MadeJournal {
-    pub(crate) disk: MemoryDisk,
-    pub(crate) text: Vec<u8>,
+    pub disk: MemoryDisk,
+    pub text: Vec<u8>,
 }
 
 /// Why no journal is made.
