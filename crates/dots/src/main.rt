@@ -1,12 +1,14 @@
 //! The program `dots`: it hands [`run_program`], or with the words `serve ..` [`run_sockets`], with `gateway ..` [`gateway_sockets`], with
-//! `ask ..` [`ask_sockets`], with `protect ..` [`protect_sockets`], with `check-ask ..` [`check_client`] and with those that ask about a
-//! host file [`check_host`], the words of its command line, the real files and streams, and the runtime, and ends with its status.
+//! `ask ..` [`ask_sockets`], with `protect ..` [`protect_sockets`], with `check-ask ..` [`check_client`], with `migrate ..` [`migrate`], and with
+//! those that ask about a host file [`check_host`], the words of its command line, the real files and streams, and the runtime, and ends with its
+//! status.
 #![tactic(auto)]
 
 use dots_lists::NoMemory;
 use dots_run::{
     ask_sockets, check_client, check_host, gateway_sockets, host_task, is_ask, is_check_ask,
-    is_gateway, is_protect, is_serve, protect_sockets, run_program, run_sockets,
+    is_gateway, is_migrate, is_protect, is_serve, migrate, protect_sockets, run_program,
+    run_sockets,
 };
 use std::io::ErrorKind;
 use std::process::ExitCode;
@@ -33,8 +35,11 @@ fn main(rt: HostRuntime) -> ExitCode {
             let checked = check_host(rt.alloc(), list.as_slice(), opening, &rt, report);
             return ExitCode::from(checked.into_status());
         }
+        if is_migrate(list.as_slice()) {
+            return ExitCode::from(migrate(rt.alloc(), list.as_slice(), opening, &rt, report));
+        }
         if is_serve(list.as_slice()) {
-            let served = run_sockets(rt.alloc(), list.as_slice(), opening, &rt, report);
+            let served = run_sockets(rt.alloc(), list.as_slice(), opening, &rt, &rt, report);
             return ExitCode::from(served.into_status());
         }
         if is_gateway(list.as_slice()) {

@@ -18,3 +18,5 @@ mod HostReporting
 mod OverSockets
 mod ClientReporting
 mod Gateways
+pub mod Looks
+mod Migrating

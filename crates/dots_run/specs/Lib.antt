@@ -12,3 +12,5 @@ pub mod HostReports
 pub mod Load
 pub mod Clients
 pub mod Gateways
+pub mod Onlooking
+pub mod Migrate

@@ -9,6 +9,8 @@
 //! A client over sockets is [`ask_sockets`], one that asks once [`protect_sockets`], and what the settings of a client come to
 //! [`check_client`] tells: `specs/Clients.antt`. A gateway over sockets is [`gateway_sockets`]: `specs/Gateways.antt`.
 //!
+//! What stands in a journal goes over to other settings with [`migrate`]: `specs/Migrate.antt`.
+//!
 //! A generated run, [`run_load`], has a host of its own. Its report is a function of its number ([`one_load_text`]), and `specs/Load.antt` says which.
 #![tactic(auto)]
 
@@ -16,10 +18,12 @@ mod again;
 mod blocks;
 mod client;
 mod client_report;
+mod filter_files;
 mod gateway;
 mod host_report;
 mod laws;
 mod load;
+mod migrate_words;
 mod outcome;
 mod program;
 mod protect;
@@ -39,15 +43,17 @@ pub use blocks::{Ended, run_blocks};
 pub use client::ask_sockets;
 pub use client_report::{ClientChecked, check_client};
 pub use dots_script::ScriptHost;
+pub use filter_files::FilterFiles;
 pub use gateway::gateway_sockets;
 pub use gateway_command::is_gateway;
 pub use host_report::{HostChecked, check_host, host_task};
 pub use laws::{one_load_text, one_text};
 pub use load::run_load;
+pub use migrate_words::{is_migrate, migrate};
 pub use program::{Finished, run_program};
 pub use protect::{Protected, protect_sockets};
 pub use reporting::report_topic;
-pub use running::run;
+pub use running::{run, run_shown};
 pub use scripted::{Scripted, run_script};
 pub use sockets::{Served, run_sockets};
 pub use topic::Topic;

@@ -9,7 +9,7 @@ ghost use Rattle.dots_run.specs.Load.{LoadReported, RunsToEnd};
 use dots_host::{MAX_EVENT_BYTES, MemoryHost};
 use dots_lists::NoMemory;
 use dots_load::{is_served, load_settings, loaded_host, report_of};
-use dots_server::{Server, take_events};
+use dots_server::{Nobody, Server, take_events};
 use filter_table::FilterTable;
 use std::alloc::Global;
 
@@ -43,7 +43,7 @@ fn serve_to_end(alloc: Global, host: &mut MemoryHost) -> Result<usize, NoMemory>
         return Err(NoMemory);
     };
     let mut room = [0; MAX_EVENT_BYTES];
-    let Ok(server) = take_events(server, host, &mut room) else {
+    let Ok(server) = take_events(server, host, &mut room, &mut Nobody) else {
         return Err(NoMemory);
     };
     match count_rows(server.registry().filters()) {

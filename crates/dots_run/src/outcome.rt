@@ -14,33 +14,36 @@ ghost use Rattle.dots_machine.specs.declared.ending.Ending as endings;
 ghost use Rattle.dots_machine.specs.declared.ending.Ending.TheVariants as ending;
 ghost use Rattle.dots_machine.specs.declared.ending.Stop.{Stop};
 ghost use Rattle.dots_machine.specs.Commands.{is_served, is_show, is_command, second_of};
-ghost use Rattle.dots_machine.specs.Endings.{status_of, has_hosted, Prints, ServesTo, Behaves, GivesFault, IsReady, IsReadable};
+ghost use Rattle.dots_machine.specs.Endings.{status_of, has_hosted, Prints, ServesTo, Behaves, GivesFault, IsReady, IsReadable, IsKnown};
 ghost use Rattle.dots_machine.specs.Machine.{State};
 ghost use Rattle.dots_machine.specs.Outside.{Outside, outside};
-ghost use Rattle.dots_server.specs.ServerValues.{RestartsWith};
+ghost use Rattle.dots_server.specs.ServerValues.{ServerValue, RestartsWith};
+ghost use Rattle.dots_server.specs.Onlooking.{RunIsSeen};
 ghost use Rattle.dots_server.specs.Running.{Came, IsFollowed};
 ghost use Rattle.dots_run.specs.Refusals.{Counts, Wrote, WritesStop, FailsOnly, EndsSized};
 ghost use Rattle.dots_run.specs.Outcomes.{IsTooSmall};
+ghost use Rattle.dots_run.specs.Onlooking.{Saw, SawRun};
 
 use crate::words::{is_served, word_to_show};
 use coap_message::{Printed, lines_of};
 use dots_host::{Host, MAX_EVENT_BYTES, Sink, Source, write_all};
 use dots_lists::NoMemory;
 use dots_machine::{Ending, Printing, Stop, write_refusal};
-use dots_server::{Server, take_events};
+use dots_server::{Onlooker, Server, take_events};
 use dots_settings::{Settings, SettingsFault, read_settings};
 use std::alloc::Global;
 
 /// Does what the words ask of the machine, and answers the exit status. With `replay SETTINGS` the settings are read
 /// from the source, what the host's disk holds is recovered, the events are taken from the host, and at End the filters that stand are written
-/// to the report. With `show HEX` the lines of a message are written to the report, or that of its fault, and neither source
+/// to the report; at each tick the server is shown to the onlooker. With `show HEX` the lines of a message are written to the report, or that of its fault, and neither source
 /// nor host is called. Other words are refused.
-pub fn run_machine<H: Host, S: Source, K: Sink>(
+pub fn run_machine<H: Host, S: Source, K: Sink, W: Onlooker>(
     alloc: Global,
     words: &[String],
     settings: &mut S,
     host: &mut H,
     report: &mut K,
+    onlooker: &mut W,
 ) -> u8
     // What the run has done, by the ending that its status is of. Where it didn't come to its host, that was not called.
     ensures machine { (ending : endings.Ending) × (result ≡ status_of ending)
@@ -49,6 +52,11 @@ pub fn run_machine<H: Host, S: Source, K: Sink>(
         (outside (S.left settings.new) (S.faults settings.new) (H.acts host.new) (H.Wire.faults host.new) (H.media host.new) (H.extent host.new) (H.Disk.faults host.new) (K.holds report.new) (K.faults report.new))
         × (has_hosted ending ≡ false → host.new ≡ host.old) }
     // What the host says of its own calls.
+    // What the onlooker saw: nothing, or at each tick of the run a server that represents the state after it.
+    ensures seen { IsKnown (outside (S.left settings.old) (S.faults settings.old) (H.acts host.old) (H.Wire.faults host.old) (H.media host.old) (H.extent host.old) (H.Disk.faults host.old) (K.holds report.old) (K.faults report.old))
+        (outside (S.left settings.new) (S.faults settings.new) (H.acts host.new) (H.Wire.faults host.new) (H.media host.new) (H.extent host.new) (H.Disk.faults host.new) (K.holds report.new) (K.faults report.new))
+        → (onlooker.new ≡ onlooker.old) ⊎ Saw (outside (S.left settings.old) (S.faults settings.old) (H.acts host.old) (H.Wire.faults host.old) (H.media host.old) (H.extent host.old) (H.Disk.faults host.old) (K.holds report.old) (K.faults report.old))
+        (outside (S.left settings.new) (S.faults settings.new) (H.acts host.new) (H.Wire.faults host.new) (H.media host.new) (H.extent host.new) (H.Disk.faults host.new) (K.holds report.new) (K.faults report.new)) (W.sees onlooker.old onlooker.new) }
     ensures leads { H.leads host.old host.new }
     // When the words are no command; which faults there must have been, and where none was.
     ensures words { (result ≡ 2) ↔ (is_command (map string_bytes words.now) ≡ false) }
@@ -77,20 +85,25 @@ pub fn run_machine<H: Host, S: Source, K: Sink>(
     ensures unreadable { is_show (map string_bytes words.now) ≡ true → ¬ (IsReadable (second_of (map string_bytes words.now)))
         → (result ≡ 1) ⊎ (result ≡ 4) }
 {
-    ending_of(alloc, words, settings, host, report).status()
+    ending_of(alloc, words, settings, host, report, onlooker).status()
 }
 
 /// How the run ends.
-fn ending_of<H: Host, S: Source, K: Sink>(
+fn ending_of<H: Host, S: Source, K: Sink, W: Onlooker>(
     alloc: Global,
     words: &[String],
     settings: &mut S,
     host: &mut H,
     report: &mut K,
+    onlooker: &mut W,
 ) -> Ending
     ensures machine { Behaves result (map string_bytes words.now)
         (outside (S.left settings.old) (S.faults settings.old) (H.acts host.old) (H.Wire.faults host.old) (H.media host.old) (H.extent host.old) (H.Disk.faults host.old) (K.holds report.old) (K.faults report.old))
         (outside (S.left settings.new) (S.faults settings.new) (H.acts host.new) (H.Wire.faults host.new) (H.media host.new) (H.extent host.new) (H.Disk.faults host.new) (K.holds report.new) (K.faults report.new)) }
+    ensures seen { IsKnown (outside (S.left settings.old) (S.faults settings.old) (H.acts host.old) (H.Wire.faults host.old) (H.media host.old) (H.extent host.old) (H.Disk.faults host.old) (K.holds report.old) (K.faults report.old))
+        (outside (S.left settings.new) (S.faults settings.new) (H.acts host.new) (H.Wire.faults host.new) (H.media host.new) (H.extent host.new) (H.Disk.faults host.new) (K.holds report.new) (K.faults report.new))
+        → (onlooker.new ≡ onlooker.old) ⊎ Saw (outside (S.left settings.old) (S.faults settings.old) (H.acts host.old) (H.Wire.faults host.old) (H.media host.old) (H.extent host.old) (H.Disk.faults host.old) (K.holds report.old) (K.faults report.old))
+        (outside (S.left settings.new) (S.faults settings.new) (H.acts host.new) (H.Wire.faults host.new) (H.media host.new) (H.extent host.new) (H.Disk.faults host.new) (K.holds report.new) (K.faults report.new)) (W.sees onlooker.old onlooker.new) }
     ensures leads { H.leads host.old host.new }
     ensures heard { (result ≡ ending.NoMemory) ⊎ (result ≡ ending.SettingsFailed) ⊎ (S.faults settings.new ≡ S.faults settings.old) }
     ensures counts { FailsOnly result (H.Disk.faults host.old) (H.Disk.faults host.new) }
@@ -108,7 +121,7 @@ fn ending_of<H: Host, S: Source, K: Sink>(
         return Ending::WrongWords;
     }
     match read_settings(alloc, settings) {
-        Ok(settings) => return host_events(alloc, settings, host, report),
+        Ok(settings) => return host_events(alloc, settings, host, report, onlooker),
         Err(SettingsFault::ReadFault) => return Ending::SettingsFailed,
         Err(SettingsFault::NoMemory) => return Ending::NoMemory,
         Err(fault) => {
@@ -137,22 +150,26 @@ fn print_word<K: Sink>(alloc: Global, word: &[u8], report: &mut K) -> Result<Pri
 }
 
 /// Recovers what the disk holds, and serves the events of the host from there.
-fn host_events<H: Host, K: Sink>(
+fn host_events<H: Host, K: Sink, W: Onlooker>(
     alloc: Global,
     settings: Settings,
     host: &mut H,
     report: &mut K,
+    onlooker: &mut W,
 ) -> Ending
     requires valid { IsSettings settings }
     ensures machine { (left left_now : Option (List ℕ)) (faults faults_now : ℕ) → ServesTo result settings
         (outside left faults (H.acts host.old) (H.Wire.faults host.old) (H.media host.old) (H.extent host.old) (H.Disk.faults host.old) (K.holds report.old) (K.faults report.old))
         (outside left_now faults_now (H.acts host.new) (H.Wire.faults host.new) (H.media host.new) (H.extent host.new) (H.Disk.faults host.new) (K.holds report.new) (K.faults report.new)) }
+    ensures seen { (left left_now : Option (List ℕ)) (faults faults_now : ℕ) → IsKnown (outside left faults (H.acts host.old) (H.Wire.faults host.old) (H.media host.old) (H.extent host.old) (H.Disk.faults host.old) (K.holds report.old) (K.faults report.old))
+        (outside left_now faults_now (H.acts host.new) (H.Wire.faults host.new) (H.media host.new) (H.extent host.new) (H.Disk.faults host.new) (K.holds report.new) (K.faults report.new))
+        → (onlooker.new ≡ onlooker.old) ⊎ SawRun settings (H.acts host.old) (H.acts host.new) (W.sees onlooker.old onlooker.new) }
     ensures counts { FailsOnly result (H.Disk.faults host.old) (H.Disk.faults host.new) }
     ensures hosted { has_hosted result ≡ true }
     ensures leads { H.leads host.old host.new }
 {
     match Server::begin(alloc, settings, host, 0) {
-        Ok(server) => return serve(server, host, report),
+        Ok(server) => return serve(server, host, report, onlooker),
         Err(fault) => {
             write_refusal(&fault, report);
             return Ending::Unrecovered(fault);
@@ -161,7 +178,12 @@ fn host_events<H: Host, K: Sink>(
 }
 
 /// Serves the events of the host, and reports the filters that stand at End.
-fn serve<H: Host, K: Sink>(server: Server, host: &mut H, report: &mut K) -> Ending
+fn serve<H: Host, K: Sink, W: Onlooker>(
+    server: Server,
+    host: &mut H,
+    report: &mut K,
+    onlooker: &mut W,
+) -> Ending
     requires size { needed_of server.journal.slots ≤ H.extent host.old }
     // The run, and what was written of its last state: where the disk is told, or where the acts are and none is a restart.
     ensures came { (settings : SettingsValue) (start : State) (stored : List Entry) → RestartsWith server settings start stored
@@ -170,6 +192,10 @@ fn serve<H: Host, K: Sink>(server: Server, host: &mut H, report: &mut K) -> Endi
         (H.acts host.old) (H.acts host.new) end
         × ((before now : Outside) → Counts before (K.holds report.old) (K.faults report.old) (H.Wire.faults host.old) (H.Disk.faults host.old)
         → Counts now (K.holds report.new) (K.faults report.new) (H.Wire.faults host.new) (H.Disk.faults host.new) → Wrote result how settings end.last before now) }
+    ensures seen { (settings : SettingsValue) (start : State) (stored : List Entry) → RestartsWith server settings start stored
+        → IsFollowed (RestsWith (H.media host.old) (journal.Represents server.journal settings stored)) (H.acts host.old) (H.acts host.new)
+        → (how : Stop) × (trace : List State) × (end : Owing State) × (seen : List ServerValue) × W.sees onlooker.old onlooker.new seen
+        × Added (H.acts host.old) (H.acts host.new) (RunIsSeen settings start trace end how seen) }
     ensures adds { Added (H.acts host.old) (H.acts host.new) (λ _. ⊤) }
     // For every host, it is said of some state that has entries of the settings alone.
     ensures any { (how : Stop) × (state : State) × (list_all (is_own server.settings) state.history ≡ true)
@@ -181,7 +207,7 @@ fn serve<H: Host, K: Sink>(server: Server, host: &mut H, report: &mut K) -> Endi
     ensures leads { H.leads host.old host.new }
 {
     let mut room = [0; MAX_EVENT_BYTES];
-    match take_events(server, host, &mut room) {
+    match take_events(server, host, &mut room, onlooker) {
         Ok(server) => match server.write_report(report) {
             Ok(()) => {
                 server.let_go();

@@ -8,6 +8,7 @@ ghost use Rattle.dots_run.specs.Programs.{Runs};
 use crate::blocks::{Ended, run_blocks};
 use dots_host::{Sink, Source};
 use dots_script::ScriptHost;
+use dots_server::Nobody;
 use std::alloc::Global;
 
 /// The exit status where no memory is found.
@@ -43,7 +44,14 @@ pub fn run_script<P: Source + Drop, K: Sink + Drop, S: Source, R: Sink>(
 {
     match ScriptHost::new(alloc, script, sends) {
         Ok(host) => {
-            let Ended { status, host } = run_blocks(alloc, words, settings, host, report);
+            let Ended { status, host } = run_blocks(
+                alloc,
+                words,
+                settings,
+                host,
+                report,
+                &mut Nobody,
+            );
             return Scripted {
                 status,
                 host: Some(host),

@@ -8,6 +8,7 @@ ghost use Rattle.dots_machine.specs.Commands.{is_serve, second_of, third_of};
 ghost use Rattle.dots_run.specs.OverSockets.{IsHostText, IsOpenedFrom, outside_at, RunsOver};
 
 use crate::blocks::{Ended, run_blocks};
+use crate::filter_files::FilterFiles;
 use crate::words::names_of;
 use dots_edge::FileSocketHost;
 use dots_host::{Sink, Source, StdSink, StdSource};
@@ -58,13 +59,14 @@ impl<F: Drop, K: Drop, R: Drop> Served<F, K, R> {
 /// Does all that the program does with the words `serve SETTINGS HOSTFILE`: `opening` opens both files by their names, the runtime opens
 /// the sockets and the journal that the host file names, and what is reported is written to `report`. A file that can't be
 /// opened, where `opening` gives None, fails when it is read. In place of a host file that can't be read, or has more than 65,536 bytes, stands one
-/// with a fault, over which every call of the host fails. Long replies leave in blocks. Status 4 where no memory is found for the host.
+/// with a fault, over which every call of the host fails. At each tick `files` gets the filters where the host file asks for that. Long replies leave in blocks. Status 4 where no memory is found for the host.
 pub fn run_sockets<
     F: Read + Drop,
     K: Write + Drop,
     R: Files<File = File> + Net + Clock + Drop,
+    G: Files<File = File> + Drop,
     Open: Fn(&str) -> Option<F> + Drop,
->(alloc: Global, words: &[String], opening: Open, rt: R, report: K) -> Served<F, K, R>
+>(alloc: Global, words: &[String], opening: Open, rt: R, files: G, report: K) -> Served<F, K, R>
     requires opens { Open.IsAlwaysCallable opening }
     requires serves { is_serve (map string_bytes words.now) ≡ true }
     // The two files are what opening the second and the third word gave. Where the host finds no memory, no settings were read and nothing was
@@ -85,7 +87,7 @@ pub fn run_sockets<
     let mut settings = StdSource::new(opening(settings));
     let mut host_file = StdSource::new(opening(host_file));
     let mut report = StdSink::new(report);
-    let Ok(host) = open_host(alloc, rt, &mut host_file) else {
+    let Ok((host, filters)) = open_both(alloc, rt, files, &mut host_file) else {
         return Served {
             status: NO_MEMORY,
             settings,
@@ -94,7 +96,15 @@ pub fn run_sockets<
             report,
         };
     };
-    let Ended { status, host } = run_blocks(alloc, words, &mut settings, host, &mut report);
+    let mut filters = filters;
+    let Ended { status, host } = run_blocks(
+        alloc,
+        words,
+        &mut settings,
+        host,
+        &mut report,
+        &mut filters,
+    );
     Served {
         status,
         settings,
@@ -102,6 +112,22 @@ pub fn run_sockets<
         host: Some(host),
         report,
     }
+}
+
+/// The host that the text of the host file opens, and the files of filters that it names.
+fn open_both<F: Read, R: Files<File = File> + Net + Clock + Drop, G: Files<File = File> + Drop>(
+    alloc: Global,
+    rt: R,
+    files: G,
+    file: &mut StdSource<F>,
+) -> Result<(FileSocketHost<R>, FilterFiles<G>), NoMemory>
+    ensures { IfOk result (λ opened. IsOpenedFrom (⟦<StdSource<F> as Source>⟧.left file.old)
+        (Rose (⟦<StdSource<F> as Source>⟧.faults file.old) (⟦<StdSource<F> as Source>⟧.faults file.new)) opened.0) }
+{
+    let text = read_text(alloc, file)?;
+    let filters = FilterFiles::of(alloc, files, text.as_slice())?;
+    let host = FileSocketHost::open(alloc, rt, text.as_slice())?;
+    Ok((host, filters))
 }
 
 /// The host that the text of the host file opens.

@@ -8,6 +8,7 @@ use crate::tables::Row;
 use ask_agent::{Firsts, is_ask, is_protect, run_client, run_protect};
 use dots_host::{MemorySink, MemorySource, NoMemory};
 use dots_run::{Ended, ScriptHost, run_blocks};
+use dots_server::Nobody;
 use std::alloc::Global;
 
 type Scripted = ScriptHost<MemorySource, MemorySink>;
@@ -33,7 +34,14 @@ fn leaves(
     if is_protect(words) {
         return protects(alloc, row, words, host, sink);
     }
-    let Ended { status, host } = run_blocks(alloc, words, &mut parts.settings, host, sink);
+    let Ended { status, host } = run_blocks(
+        alloc,
+        words,
+        &mut parts.settings,
+        host,
+        sink,
+        &mut Nobody,
+    );
     let goes = has_ended(alloc, row, status, sink) && row.has(alloc, ">", host.sink().bytes());
     drop(host);
     goes

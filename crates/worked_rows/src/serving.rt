@@ -40,7 +40,7 @@ fn served(
     } else {
         Some(SETTINGS)
     };
-    let served = run_sockets(rt.alloc(), words, opening, rt, report);
+    let served = run_sockets(rt.alloc(), words, opening, rt, rt, report);
     served.into_status()
 }
 

@@ -124,6 +124,9 @@ $ help
 =                        prints the filters of that journal, also while a server runs, as the lines of a report
 = dots filters SETTINGS HOSTFILE nft
 =                        prints them as a script for nft -f
+= dots migrate OLD NEW HOSTFILE NEWJOURNAL
+=                        writes what counts of the journal that a host file names, of the settings OLD, to a new file, as that of
+=                        the settings NEW: prints what is left out, and why; with dry behind it writes nothing
 = dots check-script      reads a script from standard input: prints how many events it has, or its first fault, and why
 = dots load N            serves 20,000 events that the number N, of 1 to 1,000, generates, over a host in memory: prints
 =                        eight counts, the same for the same N

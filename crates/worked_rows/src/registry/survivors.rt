@@ -15,7 +15,7 @@ use std::alloc::Global;
 use std::test::Fail;
 
 /// Whether the disk has the bytes of the journal.
-fn has_room(journal: &Journal, disk: &MemoryDisk) -> bool
+pub fn has_room(journal: &Journal, disk: &MemoryDisk) -> bool
     ensures { result ≡ true → needed_of journal.now.slots ≤ disk.now.extent }
 {
     8192 * (1 + 2 * u64::from(journal.slots())) <= disk.size()

@@ -1,10 +1,12 @@
-use Rattle.std.proofs.Common.{◌≡◌, ◌∙◌, map, string_bytes, refl, sym, ap, subst}
+use Rattle.std.proofs.Common.{◌≡◌, ◌∙◌, inl, map, string_bytes, refl, sym, ap, subst}
 use Rattle.std.proofs.lemmas.Bool.{true≢false}
 use Rattle.coap_block.specs.Around.{Wrapped, seen_above, GoesOnSeen}
 use Rattle.dots_machine.specs.Outside.{Outside, outside}
 use Rattle.dots_machine.specs.Endings.{Behaves}
 use Rattle.dots_run.specs.Outcomes.{Outcome}
 use Rattle.dots_run.specs.Blocks.{RunsInBlocks}
+use Rattle.dots_run.specs.Onlooking.{SeesInBlocks}
+use Rattle.dots_run.proofs.Looks.{SawOn, saw_still, saw_blocks}
 use Rattle.dots_run.proofs.Asking.{served_no_topic, no_topic}
 use Rattle.dots_run.proofs.InBlocks.{over_blocks, over_none, lacks_memory, lacks_outcome}
 use Rattle.dots_run.proofs.blocks.run_blocks.Goals as goal
@@ -14,12 +16,23 @@ use Rattle.dots_run.proofs.blocks.run_blocks.Goals as goal
 pub returns-then-not-is_served : goal.returns-then-not-is_served
 returns-then-not-is_served g c =
     let words = map string_bytes c.args.words.now in
-    let said = c.run-status.ensures in
+    let said = c.run_shown-status.ensures in
     let none = said.unserved (sym c.is_served.ensures ∙ c.if-not-is_served.true) in
     record {
       machine = λ is.
           let (how, status_is, behaves, idle) = said.machine is in
-          over_none words c.run-status.result _ _ _ (ap g.H.Wire.acts none) how status_is behaves none;
+          over_none words c.run_shown-status.result _ _ _ (ap g.H.Wire.acts none) how status_is behaves none;
+      seen = saw_still (record {
+        left = g.S.Source.left c.args.settings.now;
+        source_faults = g.S.Source.faults c.args.settings.now;
+        acts = g.H.Wire.acts c.args.host;
+        wire_faults = g.H.Wire.faults c.args.host;
+        media = g.H.Disk.media c.args.host;
+        extent = g.H.Disk.extent c.args.host;
+        disk_faults = g.H.Disk.faults c.args.host;
+        written = g.K.Sink.holds c.args.report.now;
+        report_faults = g.K.Sink.faults c.args.report.now;
+      }) _ (ap g.H.Wire.acts none) _ _ said.seen;
       told = said.told;
       leads = said.leads;
       outcome = record {
@@ -48,17 +61,17 @@ pub returns-in-Ok : goal.returns-in-Ok
 returns-in-Ok g c =
     let words = map string_bytes c.args.words.now in
     let served = sym c.is_served.ensures ∙ c.if-not-is_served.false in
-    let said = c.run-status-in-Ok.ensures in
-    let status = c.run-status-in-Ok.result in
+    let said = c.run_shown-status-in-Ok.ensures in
+    let status = c.run_shown-status-in-Ok.result in
     let around = c.in-Ok.around in
     let first = c.in-Ok.ensures.ok in
-    let new = c.run-status-in-Ok.new.host in
+    let new = c.run_shown-status-in-Ok.new.host in
     let taken = sym c.into_inner.ensures in
     let acts = g.H.Wire.acts in
     let before : (h : _) → Outside =
     λ h. outside (g.S.Source.left c.args.settings.now) (g.S.Source.faults c.args.settings.now) (acts h) (g.H.Wire.faults h) (g.H.Disk.media h) (g.H.Disk.extent h) (g.H.Disk.faults h) (g.K.Sink.holds c.args.report.now) (g.K.Sink.faults c.args.report.now) in
     let after : (h : _) → Outside =
-    λ h. outside (g.S.Source.left c.run-status-in-Ok.new.settings) (g.S.Source.faults c.run-status-in-Ok.new.settings) (acts h) (g.H.Wire.faults h) (g.H.Disk.media h) (g.H.Disk.extent h) (g.H.Disk.faults h) (g.K.Sink.holds c.run-status-in-Ok.new.report) (g.K.Sink.faults c.run-status-in-Ok.new.report) in
+    λ h. outside (g.S.Source.left c.run_shown-status-in-Ok.new.settings) (g.S.Source.faults c.run_shown-status-in-Ok.new.settings) (acts h) (g.H.Wire.faults h) (g.H.Disk.media h) (g.H.Disk.extent h) (g.H.Disk.faults h) (g.K.Sink.holds c.run_shown-status-in-Ok.new.report) (g.K.Sink.faults c.run_shown-status-in-Ok.new.report) in
     let stays : new ≡ around → new.inner ≡ c.args.host = λ same. ap (λ (w : Wrapped _). w.inner) (same ∙ first) in
     let outcome : Outcome words status (before around.inner) (after new.inner) = record {
       commands = said.words;
@@ -82,6 +95,12 @@ returns-in-Ok g c =
           let did = subst (λ (w : Wrapped _). Behaves how words (record (before w.inner) { acts = seen_above (acts w.inner) w.log }) (record (after new.inner) { acts = seen_above (acts new.inner) new.log })) first behaves in
           subst (λ h. RunsInBlocks words status (before c.args.host) (after h) (h ≡ c.args.host)) taken
           (over_blocks words status (before c.args.host) (after new.inner) new.log new.blocks (new.inner ≡ c.args.host) goes how status_is did (λ none. stays (idle none)));
+      seen =
+          let goes = subst (λ (w : Wrapped _). GoesOnSeen (acts w.inner) w.log w.blocks (acts new.inner) new.log new.blocks) first said.leads.1 in
+          let saw = subst (λ (w : Wrapped _). SawOn (record (before w.inner) { acts = seen_above (acts w.inner) w.log }) (record (after new.inner) { acts = seen_above (acts new.inner) new.log })
+          (c.run_shown-status-in-Ok.new.onlooker ≡ c.args.onlooker.now) (g.W.Onlooker.sees c.args.onlooker.now c.run_shown-status-in-Ok.new.onlooker)) first said.seen in
+          subst (λ h. SeesInBlocks (before c.args.host) (after h) (c.run_shown-status-in-Ok.new.onlooker ≡ c.args.onlooker.now) (g.W.Onlooker.sees c.args.onlooker.now c.run_shown-status-in-Ok.new.onlooker)) taken
+          (saw_blocks (before c.args.host) (after new.inner) new.log new.blocks _ _ goes saw);
       told = λ topic is. no_topic words topic _ (served_no_topic words served) is;
       leads = subst (λ h. g.H.Wire.leads c.args.host h) taken (subst (λ (w : Wrapped _). g.H.Wire.leads w.inner new.inner) first said.leads.0);
       outcome = subst (λ h. Outcome words status (before c.args.host) (after h)) taken (subst (λ (w : Wrapped _). Outcome words status (before w.inner) (after new.inner)) first outcome);
@@ -100,6 +119,8 @@ returns-in-Err g c =
     let before : (h : _) → Outside =
     λ h. outside (g.S.Source.left c.args.settings.now) (g.S.Source.faults c.args.settings.now) (g.H.Wire.acts h) (g.H.Wire.faults h) (g.H.Disk.media h) (g.H.Disk.extent h) (g.H.Disk.faults h) (g.K.Sink.holds c.args.report.now) (g.K.Sink.faults c.args.report.now) in
     record {
+      seen = subst (λ h. SeesInBlocks (before c.args.host) (before h) (c.args.onlooker.now ≡ c.args.onlooker.now) (g.W.Onlooker.sees c.args.onlooker.now c.args.onlooker.now)) same
+          (saw_still (before c.args.host) (before c.args.host) refl _ _ (λ known. inl refl));
       machine = λ is. subst (λ h. RunsInBlocks words 4 (before c.args.host) (before h) (h ≡ c.args.host)) same (lacks_memory words (before c.args.host) (c.args.host ≡ c.args.host) served refl);
       told = λ topic is. no_topic words topic _ (served_no_topic words served) is;
       leads = subst (λ h. g.H.Wire.leads c.args.host h) same (g.met.H.Wire.leads_same c.args.host);

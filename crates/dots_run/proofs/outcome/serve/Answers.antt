@@ -20,6 +20,10 @@ returns-in-Ok-write_report-clause-came g c = λ settings start stored kept follo
       λ before now counted counts. wrote_all settings got.0.last _ _ _ _ _ _ _ _ before now counted counts (c.in-Ok-write_report.ensures.ok settings got.0.last got.2),
     )
 
+pub returns-in-Ok-write_report-clause-seen : goal.returns-in-Ok-write_report-clause-seen
+returns-in-Ok-write_report-clause-seen g c = λ settings start stored kept follows.
+    let (trace, end, seen, has, told) = rw c.in-Ok.is at (c.take_events.ensures.seen settings start stored kept follows) in (stop.Ended, trace, end, seen, has, told)
+
 pub returns-in-Ok-write_report-clause-any : goal.returns-in-Ok-write_report-clause-any
 returns-in-Ok-write_report-clause-any g c =
     let settings = c.args.server.settings in
@@ -46,6 +50,10 @@ returns-in-Err-write_report-clause-came g c = λ settings start stored kept foll
           wrote_some settings got.0.last _ _ _ _ _ _ _ _ before now counted counts (c.in-Err-write_report.ensures.err settings got.0.last got.2) c.in-Err-write_report.ensures.cause.rose,
     )
 
+pub returns-in-Err-write_report-clause-seen : goal.returns-in-Err-write_report-clause-seen
+returns-in-Err-write_report-clause-seen g c = λ settings start stored kept follows.
+    let (trace, end, seen, has, told) = rw c.in-Ok.is at (c.take_events.ensures.seen settings start stored kept follows) in (stop.Ended, trace, end, seen, has, told)
+
 pub returns-in-Err-write_report-clause-any : goal.returns-in-Err-write_report-clause-any
 returns-in-Err-write_report-clause-any g c =
     let settings = c.args.server.settings in
@@ -71,6 +79,10 @@ returns-in-Err-clause-came g c = λ settings start stored kept follows.
       got.1,
       λ before now counted counts. wrote_stop settings got.0.last _ _ _ _ _ _ _ _ before now counted counts c.in-Err.how c.in-Err.ensures.stopped c.write_stop.ensures,
     )
+
+pub returns-in-Err-clause-seen : goal.returns-in-Err-clause-seen
+returns-in-Err-clause-seen g c = λ settings start stored kept follows.
+    let (trace, end, seen, has, told) = rw c.in-Err.is at (c.take_events.ensures.seen settings start stored kept follows) in (c.in-Err.how, trace, end, seen, has, told)
 
 pub returns-in-Err-clause-any : goal.returns-in-Err-clause-any
 returns-in-Err-clause-any g c = (

@@ -44,7 +44,7 @@ returns g c =
       subst (λ name. FnReturnsAt g.Open.Fn c.args.opening name c.opening-2.result) c.names_of.ensures.host (says_at g.Open.Fn c.opening-2.ensures refl),
       (
         host,
-        subst (λ source. IsOpenedFrom (left source.reader) (Rose source.faults c.open_host.new.file.faults) host) c.new-host_file.ensures c.in-Ok.ensures,
+        subst (λ source. IsOpenedFrom (left source.reader) (Rose source.faults c.open_both.new.file.faults) host) c.new-host_file.ensures c.in-Ok.ensures,
         subst (λ sink. RunsOver words c.run_blocks-status.result.status (outside_at (left c.opening.result) 0 host (g.K.Write.contents sink.writer) sink.faults) after host c.run_blocks-status.result.host) c.new-report.ensures
             (subst (λ source. RunsOver words c.run_blocks-status.result.status (outside_at (left source.reader) source.faults host (g.K.Write.contents report.writer) report.faults) after host c.run_blocks-status.result.host) c.new-settings.ensures runs),
       ),

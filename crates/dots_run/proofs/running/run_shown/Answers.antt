@@ -2,12 +2,15 @@ use Rattle.std.proofs.Common.{◌∙◌, map, string_bytes, inl, refl, sym, subs
 use Rattle.dots_host.specs.Causes.{Rose}
 use Rattle.dots_run.specs.Reporting.{ReportsTopic, IsSound, IsAtFault}
 use Rattle.dots_run.proofs.Asking.{never_served, no_show, no_source, one_topic, topic_is_known, known_without, no_topic, never_two, never_ten, status_unread, status_unwritten, status_sound, status_at_fault, status_source_read}
-use Rattle.dots_run.proofs.running.run.Goals as goal
+use Rattle.dots_run.proofs.running.run_shown.Goals as goal
 
 -- ---- what is told without serving
 
 pub returns-in-Some-clause-machine : goal.returns-in-Some-clause-machine
 returns-in-Some-clause-machine g c = λ none. no_topic (map string_bytes c.args.words.now) c.in-Some.topic _ none (sym c.in-Some.ensures)
+
+pub returns-in-Some-clause-seen : goal.returns-in-Some-clause-seen
+returns-in-Some-clause-seen g c = λ known. inl refl
 
 pub returns-in-Some-clause-told : goal.returns-in-Some-clause-told
 returns-in-Some-clause-told g c = λ topic is.
