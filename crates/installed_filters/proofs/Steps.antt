@@ -10,6 +10,8 @@ use Rattle.acl_lists.specs.declared.rows.ScrubRow.{ScrubRow}
 use Rattle.acl_lists.specs.declared.rows.AclRow.{AclRow}
 use Rattle.filter_table.specs.TableRows.{row_set, row_woken, waits}
 use Rattle.dots_history.specs.Histories.{Mitigation}
+use Rattle.live_mitigations.specs.declared.live_row.LiveRow.{LiveRow}
+use Rattle.live_mitigations.specs.LiveRows.{mitigations_in}
 use Rattle.dots_history.specs.Rows.{mid_of}
 use Rattle.held_resources.proofs.Holdings.{turned_bytes}
 use Rattle.installed_filters.specs.Filters.{FiltersValue, with_rows, is_row_of, scrubs_without_one, scrubs_without, woken_row, some_of, settled_row, acl_switched, activated_row, is_named_row, acls_without, acls_without_all}
@@ -45,18 +47,18 @@ pub sweep_more : (domain : ℕ) (stays : Mitigation → Bool) (m : Mitigation) (
 sweep_more domain stays m ms filters new is =
     ap (swept domain stays ms) is ∙ ap (λ rows. with_rows filters rows filters.acls) (without_more domain stays m ms filters.scrubs)
 
-pub sweep_step : (domain : ℕ) (stays : Mitigation → Bool) (i : ℕ) (ms : List Mitigation) (m : Mitigation) (before new goal : FiltersValue) → i < length ms
-    → m ≡ get_or ms i m → new ≡ swept domain stays (m ∷ []) before → swept domain stays (drop i ms) before ≡ goal → swept domain stays (drop (i + 1) ms) new ≡ goal
-sweep_step domain stays i ms m before new goal less at is rest =
-    sweep_more domain stays m (drop (i + 1) ms) before new is
-    ∙ ap (λ x. swept domain stays (x ∷ drop (i + 1) ms) before) at
-    ∙ ap (λ xs. swept domain stays xs before) (sym (drop_more ms i m less))
+pub sweep_step : (domain : ℕ) (stays : Mitigation → Bool) (i : ℕ) (rows : List LiveRow) (row : LiveRow) (before new goal : FiltersValue) → i < length rows
+    → row ≡ get_or rows i row → new ≡ swept domain stays (row.mitigation ∷ []) before → swept domain stays (mitigations_in (drop i rows)) before ≡ goal → swept domain stays (mitigations_in (drop (i + 1) rows)) new ≡ goal
+sweep_step domain stays i rows row before new goal less at is rest =
+    sweep_more domain stays row.mitigation (mitigations_in (drop (i + 1) rows)) before new is
+    ∙ ap (λ x. swept domain stays (x.mitigation ∷ mitigations_in (drop (i + 1) rows)) before) at
+    ∙ ap (λ xs. swept domain stays (mitigations_in xs) before) (sym (drop_more rows i row less))
     ∙ rest
 
-pub sweep_end : (domain : ℕ) (stays : Mitigation → Bool) (i : ℕ) (ms : List Mitigation) (new goal : FiltersValue) → length ms ≤ i
-    → swept domain stays (drop i ms) new ≡ goal → new ≡ goal
-sweep_end domain stays i ms new goal past is =
-    sym (sweep_none domain stays new) ∙ ap (λ xs. swept domain stays xs new) (sym (drop_all i ms past)) ∙ is
+pub sweep_end : (domain : ℕ) (stays : Mitigation → Bool) (i : ℕ) (rows : List LiveRow) (new goal : FiltersValue) → length rows ≤ i
+    → swept domain stays (mitigations_in (drop i rows)) new ≡ goal → new ≡ goal
+sweep_end domain stays i rows new goal past is =
+    sym (sweep_none domain stays new) ∙ ap (λ xs. swept domain stays (mitigations_in xs) new) (sym (drop_all i rows past)) ∙ is
 
 pub sweep_one : (domain : ℕ) (stays : Mitigation → Bool) (m : Mitigation) (cuid : List ℕ) (mid : ℕ) (filters new : FiltersValue) → stays m ≡ false
     → cuid ≡ m.put.cuid → mid ≡ mid_of m.put.change → new ≡ with_rows filters (scrubs_without_one domain cuid mid filters.scrubs) filters.acls
@@ -140,19 +142,19 @@ wake_more domain goes active m ms filters new is =
     (woken_more domain goes active m ms)
     filters.scrubs)
 
-pub wake_step : (domain : ℕ) (goes : Mitigation → Bool) (active : Bool) (i : ℕ) (ms : List Mitigation) (m : Mitigation) (before new goal : FiltersValue) → i < length ms
-    → m ≡ get_or ms i m → new ≡ waked domain goes active (m ∷ []) before → waked domain goes active (drop i ms) before ≡ goal
-    → waked domain goes active (drop (i + 1) ms) new ≡ goal
-wake_step domain goes active i ms m before new goal less at is rest =
-    wake_more domain goes active m (drop (i + 1) ms) before new is
-    ∙ ap (λ x. waked domain goes active (x ∷ drop (i + 1) ms) before) at
-    ∙ ap (λ xs. waked domain goes active xs before) (sym (drop_more ms i m less))
+pub wake_step : (domain : ℕ) (goes : Mitigation → Bool) (active : Bool) (i : ℕ) (rows : List LiveRow) (row : LiveRow) (before new goal : FiltersValue) → i < length rows
+    → row ≡ get_or rows i row → new ≡ waked domain goes active (row.mitigation ∷ []) before → waked domain goes active (mitigations_in (drop i rows)) before ≡ goal
+    → waked domain goes active (mitigations_in (drop (i + 1) rows)) new ≡ goal
+wake_step domain goes active i rows row before new goal less at is rest =
+    wake_more domain goes active row.mitigation (mitigations_in (drop (i + 1) rows)) before new is
+    ∙ ap (λ x. waked domain goes active (x.mitigation ∷ mitigations_in (drop (i + 1) rows)) before) at
+    ∙ ap (λ xs. waked domain goes active (mitigations_in xs) before) (sym (drop_more rows i row less))
     ∙ rest
 
-pub wake_end : (domain : ℕ) (goes : Mitigation → Bool) (active : Bool) (i : ℕ) (ms : List Mitigation) (new goal : FiltersValue) → length ms ≤ i
-    → waked domain goes active (drop i ms) new ≡ goal → new ≡ goal
-wake_end domain goes active i ms new goal past is =
-    sym (wake_none domain goes active new) ∙ ap (λ xs. waked domain goes active xs new) (sym (drop_all i ms past)) ∙ is
+pub wake_end : (domain : ℕ) (goes : Mitigation → Bool) (active : Bool) (i : ℕ) (rows : List LiveRow) (new goal : FiltersValue) → length rows ≤ i
+    → waked domain goes active (mitigations_in (drop i rows)) new ≡ goal → new ≡ goal
+wake_end domain goes active i rows new goal past is =
+    sym (wake_none domain goes active new) ∙ ap (λ xs. waked domain goes active (mitigations_in xs) new) (sym (drop_all i rows past)) ∙ is
 
 pub wake_one : (domain : ℕ) (goes : Mitigation → Bool) (active : Bool) (m : Mitigation) (cuid : List ℕ) (mid : ℕ) (filters new : FiltersValue) → goes m ≡ true
     → cuid ≡ m.put.cuid → mid ≡ mid_of m.put.change → new ≡ with_rows filters (map (row_woken domain cuid mid active) filters.scrubs) filters.acls
@@ -254,19 +256,19 @@ settle_more domain goes passes all m ms filters new is =
     (settled_more domain goes passes all m ms)
     filters.acls)
 
-pub settle_step : (domain : ℕ) (goes passes : Mitigation → Bool) (all : List Mitigation) (i : ℕ) (ms : List Mitigation) (m : Mitigation) (before new goal : FiltersValue)
-    → i < length ms → m ≡ get_or ms i m → new ≡ settled domain goes passes all (m ∷ []) before → settled domain goes passes all (drop i ms) before ≡ goal
-    → settled domain goes passes all (drop (i + 1) ms) new ≡ goal
-settle_step domain goes passes all i ms m before new goal less at is rest =
-    settle_more domain goes passes all m (drop (i + 1) ms) before new is
-    ∙ ap (λ x. settled domain goes passes all (x ∷ drop (i + 1) ms) before) at
-    ∙ ap (λ xs. settled domain goes passes all xs before) (sym (drop_more ms i m less))
+pub settle_step : (domain : ℕ) (goes passes : Mitigation → Bool) (all : List Mitigation) (i : ℕ) (rows : List LiveRow) (row : LiveRow) (before new goal : FiltersValue)
+    → i < length rows → row ≡ get_or rows i row → new ≡ settled domain goes passes all (row.mitigation ∷ []) before → settled domain goes passes all (mitigations_in (drop i rows)) before ≡ goal
+    → settled domain goes passes all (mitigations_in (drop (i + 1) rows)) new ≡ goal
+settle_step domain goes passes all i rows row before new goal less at is rest =
+    settle_more domain goes passes all row.mitigation (mitigations_in (drop (i + 1) rows)) before new is
+    ∙ ap (λ x. settled domain goes passes all (x.mitigation ∷ mitigations_in (drop (i + 1) rows)) before) at
+    ∙ ap (λ xs. settled domain goes passes all (mitigations_in xs) before) (sym (drop_more rows i row less))
     ∙ rest
 
-pub settle_end : (domain : ℕ) (goes passes : Mitigation → Bool) (all : List Mitigation) (i : ℕ) (ms : List Mitigation) (new goal : FiltersValue) → length ms ≤ i
-    → settled domain goes passes all (drop i ms) new ≡ goal → new ≡ goal
-settle_end domain goes passes all i ms new goal past is =
-    sym (settle_none domain goes passes all new) ∙ ap (λ xs. settled domain goes passes all xs new) (sym (drop_all i ms past)) ∙ is
+pub settle_end : (domain : ℕ) (goes passes : Mitigation → Bool) (all : List Mitigation) (i : ℕ) (rows : List LiveRow) (new goal : FiltersValue) → length rows ≤ i
+    → settled domain goes passes all (mitigations_in (drop i rows)) new ≡ goal → new ≡ goal
+settle_end domain goes passes all i rows new goal past is =
+    sym (settle_none domain goes passes all new) ∙ ap (λ xs. settled domain goes passes all (mitigations_in xs) new) (sym (drop_all i rows past)) ∙ is
 
 pub settle_unchanged : (domain : ℕ) (goes passes : Mitigation → Bool) (all : List Mitigation) (m : Mitigation) (filters : FiltersValue) → goes m ≡ false
     → filters ≡ settled domain goes passes all (m ∷ []) filters

@@ -3,31 +3,32 @@
 ghost use Rattle.std.specs.Prelude.{◌≡◌, ◌∷◌, [], map};
 ghost use Rattle.held_resources.specs.Tables.{lost_in};
 ghost use Rattle.installed_filters.specs.Filters as filters;
+ghost use Rattle.live_mitigations.specs.LiveRows.{mitigations_in};
 ghost use Rattle.installed_filters.specs.Filters.{with_rows, woken_row, is_working, settled_row, filters_lost};
 
 use crate::filters::InstalledFilters;
 use crate::working::{is_mitigating, is_waiting_for};
 use held_resources::HeldResources;
-use live_mitigations::Row;
+use live_mitigations::{LiveRow, Row};
 
 impl InstalledFilters {
     /// For an entry that says that the signal of a peer of this domain is lost or back, where what is held says so already: of the
     /// mitigations of the domain, which are given, the rows of those that wait for this signal are active where it is lost, and
     /// not where it is back. The lists of their clients that are active while the client mitigates are so while one of its
     /// mitigations filters. No place changes.
-    pub fn lose(&mut self, peer: u32, domain: u16, rows: &[Row], held: &HeldResources)
-        ensures { self.new ≡ filters_lost (lost_in held.now) peer domain rows.now self.old }
+    pub fn lose(&mut self, peer: u32, domain: u16, rows: &[LiveRow], held: &HeldResources)
+        ensures { self.new ≡ filters_lost (lost_in held.now) peer domain (mitigations_in rows.now) self.old }
     {
         self.wake_waiting(peer, domain, rows, held.lost(peer, domain));
         self.settle_waiting(peer, domain, rows, held);
     }
 
     #[tactic(auto, using(crate::proofs::Steps::wake_step, crate::proofs::Steps::wake_end))]
-    fn wake_waiting(&mut self, peer: u32, domain: u16, rows: &[Row], active: bool)
-        ensures { self.new ≡ with_rows self.old (map (woken_row domain (filters.is_waiting_for peer) active rows.now) self.old.scrubs) self.old.acls }
+    fn wake_waiting(&mut self, peer: u32, domain: u16, rows: &[LiveRow], active: bool)
+        ensures { self.new ≡ with_rows self.old (map (woken_row domain (filters.is_waiting_for peer) active (mitigations_in rows.now)) self.old.scrubs) self.old.acls }
     {
         for row in rows {
-            self.wake_if_waiting(peer, domain, row, active);
+            self.wake_if_waiting(peer, domain, &row.mitigation, active);
         }
     }
 
@@ -41,12 +42,12 @@ impl InstalledFilters {
     }
 
     #[tactic(auto, using(crate::proofs::Steps::settle_step, crate::proofs::Steps::settle_end))]
-    fn settle_waiting(&mut self, peer: u32, domain: u16, rows: &[Row], held: &HeldResources)
+    fn settle_waiting(&mut self, peer: u32, domain: u16, rows: &[LiveRow], held: &HeldResources)
         ensures { self.new ≡ with_rows self.old self.old.scrubs
-            (map (settled_row domain (filters.is_waiting_for peer) (is_working (lost_in held.now)) rows.now rows.now) self.old.acls) }
+            (map (settled_row domain (filters.is_waiting_for peer) (is_working (lost_in held.now)) (mitigations_in rows.now) (mitigations_in rows.now)) self.old.acls) }
     {
         for row in rows {
-            self.settle_if_waiting(peer, domain, row, rows, held);
+            self.settle_if_waiting(peer, domain, &row.mitigation, rows, held);
         }
     }
 
@@ -57,11 +58,11 @@ impl InstalledFilters {
         peer: u32,
         domain: u16,
         row: &Row,
-        rows: &[Row],
+        rows: &[LiveRow],
         held: &HeldResources,
     )
         ensures { self.new ≡ with_rows self.old self.old.scrubs
-            (map (settled_row domain (filters.is_waiting_for peer) (is_working (lost_in held.now)) rows.now (row.now ∷ [])) self.old.acls) }
+            (map (settled_row domain (filters.is_waiting_for peer) (is_working (lost_in held.now)) (mitigations_in rows.now) (row.now ∷ [])) self.old.acls) }
     {
         if is_waiting_for(row, peer) {
             let cuid = row.cuid().bytes();

@@ -4,6 +4,7 @@ ghost use Rattle.std.specs.Prelude.{◌≡◌, ◌≤◌, ◌++◌, ◌∷◌, �
 ghost use Rattle.std.specs.List.{list_any};
 ghost use Rattle.filter_table.specs.TableRows.{row_set};
 ghost use Rattle.held_resources.specs.Tables.{lost_in};
+ghost use Rattle.live_mitigations.specs.LiveRows.{mitigations_in};
 ghost use Rattle.installed_filters.specs.Filters.{with_rows, rows_put, own_rows, scrubs_without, lives_at, is_over, works_at, stays_beside, works_beside, works_at_once, some_of, settled_row, filters_at, filters_put};
 
 use crate::filters::InstalledFilters;
@@ -11,25 +12,25 @@ use crate::working::{is_working, works};
 use acl_lists::ScrubRow;
 use dots_history::{Entry, Status, is_live};
 use held_resources::HeldResources;
-use live_mitigations::Row;
+use live_mitigations::{LiveRow, Row};
 
 impl InstalledFilters {
     /// Of the mitigations of a domain, which are given, the rows of those go that are over by this time. The lists of a client
     /// that are active while it mitigates are so while one of its mitigations is live at this time and filters; what is held
     /// says whose signal is lost.
-    pub fn retain_live(&mut self, domain: u16, rows: &[Row], now: u64, held: &HeldResources)
-        ensures { self.new ≡ filters_at (lost_in held.now) domain now rows.now self.old }
+    pub fn retain_live(&mut self, domain: u16, rows: &[LiveRow], now: u64, held: &HeldResources)
+        ensures { self.new ≡ filters_at (lost_in held.now) domain now (mitigations_in rows.now) self.old }
     {
         self.remove_over(domain, rows, now);
         self.settle_over(domain, rows, now, held);
     }
 
     #[tactic(auto, using(crate::proofs::Steps::sweep_step, crate::proofs::Steps::sweep_end))]
-    fn remove_over(&mut self, domain: u16, rows: &[Row], now: u64)
-        ensures { self.new ≡ with_rows self.old (scrubs_without domain (lives_at now) rows.now self.old.scrubs) self.old.acls }
+    fn remove_over(&mut self, domain: u16, rows: &[LiveRow], now: u64)
+        ensures { self.new ≡ with_rows self.old (scrubs_without domain (lives_at now) (mitigations_in rows.now) self.old.scrubs) self.old.acls }
     {
         for row in rows {
-            self.remove_if_over(domain, row, now);
+            self.remove_if_over(domain, &row.mitigation, now);
         }
     }
 
@@ -43,12 +44,12 @@ impl InstalledFilters {
     }
 
     #[tactic(auto, using(crate::proofs::Steps::settle_step, crate::proofs::Steps::settle_end))]
-    fn settle_over(&mut self, domain: u16, rows: &[Row], now: u64, held: &HeldResources)
+    fn settle_over(&mut self, domain: u16, rows: &[LiveRow], now: u64, held: &HeldResources)
         ensures { self.new ≡ with_rows self.old self.old.scrubs
-            (map (settled_row domain (is_over now) (works_at (lost_in held.now) now) rows.now rows.now) self.old.acls) }
+            (map (settled_row domain (is_over now) (works_at (lost_in held.now) now) (mitigations_in rows.now) (mitigations_in rows.now)) self.old.acls) }
     {
         for row in rows {
-            self.settle_if_over(domain, row, rows, now, held);
+            self.settle_if_over(domain, &row.mitigation, rows, now, held);
         }
     }
 
@@ -58,12 +59,12 @@ impl InstalledFilters {
         &mut self,
         domain: u16,
         row: &Row,
-        rows: &[Row],
+        rows: &[LiveRow],
         now: u64,
         held: &HeldResources,
     )
         ensures { self.new ≡ with_rows self.old self.old.scrubs
-            (map (settled_row domain (is_over now) (works_at (lost_in held.now) now) rows.now (row.now ∷ [])) self.old.acls) }
+            (map (settled_row domain (is_over now) (works_at (lost_in held.now) now) (mitigations_in rows.now) (row.now ∷ [])) self.old.acls) }
     {
         if !row.is_live(now) {
             let cuid = row.cuid().bytes();
@@ -75,10 +76,10 @@ impl InstalledFilters {
     /// ends; its own rows, which are given too, come last, where it is live at once, and are active where it filters; and the
     /// lists of its client that are active while it mitigates are so where one of its mitigations is live and filters. What
     /// is held says whose signal is lost.
-    pub fn put(&mut self, entry: &Entry, own: Vec<ScrubRow>, rows: &[Row], held: &HeldResources)
+    pub fn put(&mut self, entry: &Entry, own: Vec<ScrubRow>, rows: &[LiveRow], held: &HeldResources)
         requires staged { own.items ≡ rows_put entry.now }
-        requires room { length (filters_put (lost_in held.now) entry.now rows.now self.old).scrubs ≤ self.old.scrub_room }
-        ensures { self.new ≡ filters_put (lost_in held.now) entry.now rows.now self.old }
+        requires room { length (filters_put (lost_in held.now) entry.now (mitigations_in rows.now) self.old).scrubs ≤ self.old.scrub_room }
+        ensures { self.new ≡ filters_put (lost_in held.now) entry.now (mitigations_in rows.now) self.old }
     {
         self.remove_ended(rows, entry);
         self.install_own(entry, own, held);
@@ -87,11 +88,11 @@ impl InstalledFilters {
     }
 
     #[tactic(auto, using(crate::proofs::Steps::sweep_step, crate::proofs::Steps::sweep_end))]
-    fn remove_ended(&mut self, rows: &[Row], entry: &Entry)
-        ensures { self.new ≡ with_rows self.old (scrubs_without entry.now.domain (stays_beside entry.now) rows.now self.old.scrubs) self.old.acls }
+    fn remove_ended(&mut self, rows: &[LiveRow], entry: &Entry)
+        ensures { self.new ≡ with_rows self.old (scrubs_without entry.now.domain (stays_beside entry.now) (mitigations_in rows.now) self.old.scrubs) self.old.acls }
     {
         for row in rows {
-            self.remove_if_ended(row, entry);
+            self.remove_if_ended(&row.mitigation, entry);
         }
     }
 
@@ -148,18 +149,24 @@ fn set_one(row: &mut ScrubRow, active: bool)
 }
 
 /// Whether a client of this name has one that is live at this time and filters.
-fn has_working(rows: &[Row], cuid: &[u8], now: u64, held: &HeldResources) -> bool
-    ensures { result ≡ some_of (works_at (lost_in held.now) now) cuid.now rows.now }
+fn has_working(rows: &[LiveRow], cuid: &[u8], now: u64, held: &HeldResources) -> bool
+    ensures { result ≡ some_of (works_at (lost_in held.now) now) cuid.now (mitigations_in rows.now) }
 {
-    rows.iter().any(|row| row.is_live(now) && is_working(row, held) && row.cuid().bytes() == cuid)
+    rows.iter().any(|row| {
+        row.mitigation.is_live(now)
+            && is_working(&row.mitigation, held)
+            && row.mitigation.cuid().bytes() == cuid
+    })
 }
 
 /// Whether the entry's client has one that the entry doesn't end, and that filters.
-fn has_left(rows: &[Row], entry: &Entry, held: &HeldResources) -> bool
-    ensures { result ≡ some_of (works_beside (lost_in held.now) entry.now) entry.now.cuid rows.now }
+fn has_left(rows: &[LiveRow], entry: &Entry, held: &HeldResources) -> bool
+    ensures { result ≡ some_of (works_beside (lost_in held.now) entry.now) entry.now.cuid (mitigations_in rows.now) }
 {
     rows.iter().any(|row| {
-        !row.is_ended_by(entry) && is_working(row, held) && row.cuid().bytes() == entry.cuid.bytes()
+        !row.mitigation.is_ended_by(entry)
+            && is_working(&row.mitigation, held)
+            && row.mitigation.cuid().bytes() == entry.cuid.bytes()
     })
 }
 

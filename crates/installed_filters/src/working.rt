@@ -5,19 +5,21 @@ ghost use Rattle.std.specs.List.{list_any};
 ghost use Rattle.dots_history.specs.Rows.{triggers};
 ghost use Rattle.held_resources.specs.Tables.{lost_in};
 ghost use Rattle.installed_filters.specs.Filters as filters;
+ghost use Rattle.live_mitigations.specs.LiveRows.{mitigations_in};
 ghost use Rattle.installed_filters.specs.Filters.{works_by, some_of};
 
 use dots_history::{Change, Entry, put_of};
 use held_resources::HeldResources;
-use live_mitigations::Row;
+use live_mitigations::{LiveRow, Row};
 
 /// Whether a client of this name has a mitigation that filters, among those of its domain. What is held says whose signal
 /// is lost.
-pub fn is_mitigating(rows: &[Row], cuid: &[u8], held: &HeldResources) -> bool
-    ensures { result ≡ some_of (filters.is_working (lost_in held.now)) cuid.now rows.now }
+pub fn is_mitigating(rows: &[LiveRow], cuid: &[u8], held: &HeldResources) -> bool
+    ensures { result ≡ some_of (filters.is_working (lost_in held.now)) cuid.now (mitigations_in rows.now) }
 {
-    rows.iter()
-        .any(|row| is_working(row, held) && row.cuid().bytes() == cuid)
+    rows.iter().any(|row| {
+        is_working(&row.mitigation, held) && row.mitigation.cuid().bytes() == cuid
+    })
 }
 
 /// Whether a mitigation filters: at once, or because the signal of its peer is lost (RFC 9132, section 4.4.1).

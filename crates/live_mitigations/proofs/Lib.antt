@@ -11,5 +11,5 @@ pub mod Members
 pub mod Kept
 pub mod Domains
 pub mod Unions
-pub mod Beside
+pub mod LiveRows
 pub mod Finding

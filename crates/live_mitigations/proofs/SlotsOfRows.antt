@@ -2,28 +2,26 @@
 use Rattle.std.proofs.Common.{◌≡◌, ◌≢◌, ℕ, ◌<◌, ◌≤◌, ◌+◌, suc, Bool, true, false, cond, List, [], ◌∷◌, ◌++◌, map, length, Option, Some, None, inl, inr, refl, sym, ap, subst, ◌∙◌, arith}
 use Rattle.std.specs.Prelude.{◌==◌, slice_get, option_map, option_to_list}
 use Rattle.std.specs.List.{list_any}
-use Rattle.std.proofs.lemmas.List.{length-append, length-map, map-append, append-nil}
+use Rattle.std.proofs.lemmas.List.{length-map, map-append, append-nil}
 use Rattle.std.proofs.lemmas.List.Elements.{filter-append}
 use Rattle.std.proofs.lemmas.Bool.{cases_eq, cond_both, cond-true, cond-false, eq-eqb, ne_eqb}
 use Rattle.std.proofs.lemmas.Option.{none-some, slice_get-map}
 use Rattle.dots_history.specs.declared.entry.Entry.{Entry}
 use Rattle.dots_history.specs.declared.status.Status.TheVariants.{Open}
-use Rattle.dots_history.specs.Entries.{runs}
-use Rattle.dots_history.specs.Histories.{Mitigation, live, step, mitigations, alone}
-use Rattle.dots_history.specs.Keeping.{moved}
+use Rattle.dots_history.specs.Histories.{Mitigation, live, mitigations, alone}
 use Rattle.dots_history.specs.Filed.{Filed, entry_of}
 use Rattle.dots_history.specs.Tables.{bare, is_due}
-use Rattle.dots_history.specs.Views.{mitigations_at, mitigations_with}
+use Rattle.dots_history.specs.Views.{mitigations_at}
 use Rattle.dots_history.proofs.Endings.{none_due}
 use Rattle.dots_history.proofs.Touching.{never_live}
 use Rattle.live_mitigations.specs.declared.slots.MitigationSlots.{MitigationSlots}
-use Rattle.live_mitigations.specs.Numbers.{renumbered, table_renumbered, live_renumbered}
-use Rattle.live_mitigations.specs.Rows.{LiveTable, AreEmpty, rows_or_none, rows_at, slots_or_none, slots_of, update, aged, noted, of_entry}
-use Rattle.live_mitigations.specs.Slots.{live_slots, slots_at, slots_moved, slots_left, slots_first}
+use Rattle.live_mitigations.specs.Numbers.{table_renumbered, live_renumbered}
+use Rattle.live_mitigations.specs.Rows.{LiveTable, AreEmpty, rows_or_none, rows_at, slots_or_none, slots_of, update, aged, noted}
+use Rattle.live_mitigations.specs.Slots.{live_slots, slots_at, slots_left, slots_first}
 use Rattle.live_mitigations.specs.LiveValues.{LiveValue, AreTables, Represents, puts, filed_alone, SlotsAre, SlotsCome}
 use Rattle.live_mitigations.proofs.Bared.{bared, bared_entries, are_bared, bared_are, slots_left_bared, slots_first_bared}
 use Rattle.live_mitigations.proofs.Going.{slots_age, slots_add, as_many}
-use Rattle.live_mitigations.proofs.Rows.{grown_rows, puts_none}
+use Rattle.live_mitigations.proofs.Rows.{puts_none}
 use Rattle.live_mitigations.proofs.Updates.{get_updated, get_other, length_updated, there_within, rows_changed, rows_other}
 
 -- the entries of a domain's filed ones are the domain's own entries
@@ -261,37 +259,6 @@ nothing_there number room tables empty domain (Some table) is = ap (λ (t : Live
 
 pub are_none : (t number room : ℕ) (tables : List LiveTable) → AreEmpty number room tables → SlotsAre t tables []
 are_none t number room tables empty = λ domain within. nothing_there number room tables empty domain (slice_get tables domain) refl
-
--- ---- as many slots as mitigations
-
-pub as_many_moved : (x : Filed) (ms : List Mitigation) (ss : List MitigationSlots) → length ms ≡ length ss
-    → length (mitigations_at x.entry.time (map (moved x.entry) ms)) ≡ length (slots_left x ms ss)
-as_many_moved x [] [] same = refl
-as_many_moved x [] (s ∷ ss) same = absurd (omega (arith, same))
-as_many_moved x (m ∷ ms) [] same = absurd (omega (arith, same))
-as_many_moved x (m ∷ ms) (s ∷ ss) same =
-    many_one (live x.entry.time m.put (step m.put m.status x.entry)) (moved x.entry m) (slots_moved x m s) (mitigations_at x.entry.time (map (moved x.entry) ms))
-    (slots_left x ms ss) (as_many_moved x ms ss (omega (arith, same)))
-
-as_many_first : (x : Filed) → length (of_entry (bare x.entry)) ≡ length (slots_first x)
-unfolding runs
-as_many_first x = by_test (live x.entry.time x.entry Open) (record { put = bare x.entry; status = Open }) (record { put = x.slot; withdrawal = None })
-  where
-    by_test : (b : Bool) (m : Mitigation) (s : MitigationSlots) → length (cond b (m ∷ []) []) ≡ length (cond b (s ∷ []) [])
-    by_test true m s = refl
-    by_test false m s = refl
-
-pub as_many_grown : (x : Filed) (ms : List Mitigation) (ss : List MitigationSlots) → length ms ≡ length ss
-    → length (mitigations_with (bare x.entry) ms) ≡ length (slots_left x ms ss ++ slots_first x)
-as_many_grown x ms ss same =
-    ap length (grown_rows x.entry ms)
-    ∙ length-append (mitigations_at x.entry.time (map (moved x.entry) ms)) (of_entry (bare x.entry))
-    ∙ ap (λ n. n + length (of_entry (bare x.entry))) (as_many_moved x ms ss same)
-    ∙ ap (λ n. length (slots_left x ms ss) + n) (as_many_first x)
-    ∙ sym (length-append (slots_left x ms ss) (slots_first x))
-
-pub as_many_renumbered : (keep : List ℕ) (ms : List Mitigation) (ss : List MitigationSlots) → length ms ≡ length ss → length ms ≡ length (map (renumbered keep) ss)
-as_many_renumbered keep ms ss same = same ∙ sym (length-map ss (renumbered keep))
 
 -- in new tables with the same rows and room
 tables_moved : (keep : List ℕ) (room : ℕ) (tables : List LiveTable) → ((domain : ℕ) (table : LiveTable) → slice_get tables domain ≡ Some table → table.room ≡ room)

@@ -1,5 +1,5 @@
 -- The slots of the entries by which a mitigation is live.
-use Rattle.std.specs.Prelude.{ℕ, zero, suc, ◌&&◌, ◌==◌, slice_get, if◌then◌else◌, List, [], ◌∷◌, ◌++◌, map, Option, Some, None, option_to_list}
+use Rattle.std.specs.Prelude.{ℕ, ◌&&◌, ◌==◌, slice_get, if◌then◌else◌, List, [], ◌∷◌, ◌++◌, map, Option, Some, None, option_to_list}
 use Rattle.std.specs.List.{position_or_len}
 use Rattle.dots_history.specs.declared.entry.Entry.{Entry}
 use Rattle.dots_history.specs.declared.status.Status.{Status}
@@ -58,11 +58,3 @@ slots_first x = if live x.entry.time x.entry Open then record { put = x.slot; wi
 -- the mitigation whose entry stands in a slot
 abbrev pub put_in : ℕ → List Mitigation → List MitigationSlots → Option Mitigation
 put_in slot ms ss = slice_get ms (position_or_len (λ (s : MitigationSlots). s.put == slot) ss)
-
--- ---- one of a list
-
--- what becomes of the one at a place
-abbrev pub replaced : {A : Type 0} → ℕ → (A → Option A) → List A → List A
-replaced place by [] = []
-replaced zero by (x ∷ xs) = option_to_list (by x) ++ xs
-replaced (suc place) by (x ∷ xs) = x ∷ replaced place by xs

@@ -4,15 +4,16 @@ ghost use Rattle.std.specs.Prelude.{◌≡◌, ◌+◌, ◌≤◌, ◌&&◌, if�
 ghost use Rattle.dots_history.specs.Entries.{same_client};
 ghost use Rattle.dots_history.specs.Histories.{tally};
 ghost use Rattle.live_mitigations.specs.Rows.{is_left};
+ghost use Rattle.live_mitigations.specs.LiveRows.{mitigations_in};
 ghost use Rattle.live_mitigations.specs.LiveValues.{keeps_limits};
 
-use crate::row::Row;
+use crate::live_row::LiveRow;
 use dots_history::{Entry, Status, is_live};
 use dots_settings::Limits;
 
 /// Whether after the entry, at its time, these live mitigations of its domain and its own are as many as may be at most.
-pub(crate) fn keep_limits(rows: &[Row], entry: &Entry, limits: &Limits) -> bool
-    ensures { result ≡ keeps_limits limits.now entry.now rows.now }
+pub(crate) fn keep_limits(rows: &[LiveRow], entry: &Entry, limits: &Limits) -> bool
+    ensures { result ≡ keeps_limits limits.now entry.now (mitigations_in rows.now) }
 {
     let more = is_live(entry.time, entry, Status::Open);
     are_few(count_left(rows, entry), more, limits.domain_mitigations)
@@ -30,12 +31,12 @@ fn are_few(count: usize, more: bool, limit: u32) -> bool
 }
 
 /// How many of these are live after the entry, at its time.
-fn count_left(rows: &[Row], entry: &Entry) -> usize
-    ensures { result ≡ tally (is_left entry.now) rows.now }
+fn count_left(rows: &[LiveRow], entry: &Entry) -> usize
+    ensures { result ≡ tally (is_left entry.now) (mitigations_in rows.now) }
 {
     let mut count = 0;
     for row in rows {
-        if row.is_left(entry) {
+        if row.mitigation.is_left(entry) {
             count += 1;
         }
     }
@@ -43,12 +44,12 @@ fn count_left(rows: &[Row], entry: &Entry) -> usize
 }
 
 /// How many of these are of the entry's client and are live after the entry, at its time.
-fn count_own_left(rows: &[Row], entry: &Entry) -> usize
-    ensures { result ≡ tally (λ m. is_left entry.now m && same_client entry.now m.put) rows.now }
+fn count_own_left(rows: &[LiveRow], entry: &Entry) -> usize
+    ensures { result ≡ tally (λ m. is_left entry.now m && same_client entry.now m.put) (mitigations_in rows.now) }
 {
     let mut count = 0;
     for row in rows {
-        if row.is_left(entry) && row.is_of_one_client(entry) {
+        if row.mitigation.is_left(entry) && row.mitigation.is_of_one_client(entry) {
             count += 1;
         }
     }

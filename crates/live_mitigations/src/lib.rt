@@ -26,6 +26,7 @@ mod judging;
 pub mod laws;
 mod list;
 mod live;
+mod live_row;
 mod reading;
 mod row;
 mod slots;
@@ -33,6 +34,7 @@ mod slotting;
 mod tables;
 
 pub use live::{LiveMitigations, puts};
+pub use live_row::LiveRow;
 pub use reading::{MitigationRow, Mitigations};
 pub use row::Row;
 pub use slots::MitigationSlots;

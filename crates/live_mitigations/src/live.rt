@@ -13,11 +13,13 @@ ghost use Rattle.dots_history.specs.Tables.{bare};
 ghost use Rattle.dots_history.specs.Views.{mitigations_at, mitigations_with, mitigations_of};
 ghost use Rattle.live_mitigations.specs.Ends.{never};
 ghost use Rattle.live_mitigations.specs.LiveValues.{rows_for, count_live, has_due, puts, Represents, ComesTo, SameButRows, SlotsAre, SlotsCome, keeps_limits, has_live_room};
+ghost use Rattle.live_mitigations.specs.LiveRows.{mitigations_in};
 ghost use Rattle.live_mitigations.specs.Rows.{slots_of};
 ghost use Rattle.live_mitigations.specs.Slots.{put_in};
 ghost use Rattle.live_mitigations.specs.Numbers.{all_numbers, live_renumbered};
 
 use crate::counting::keep_limits;
+use crate::live_row::LiveRow;
 use crate::row::Row;
 use crate::tables::LiveTables;
 use dots_history::{Entry, SlotList, put_of};
@@ -98,10 +100,10 @@ impl LiveMitigations {
     }
 
     /// The live mitigations of a domain, in order of their entries.
-    pub fn rows(&self, domain: u16) -> &[Row]
+    pub fn rows(&self, domain: u16) -> &[LiveRow]
         requires { domain < self.now.domains }
-        ensures kept { result.now ≡ rows_for self.now domain }
-        ensures live { (entries : List Entry) → Represents self.now entries → result.now ≡ mitigations_of domain (mitigations self.now.time (map bare entries)) }
+        ensures kept { mitigations_in result.now ≡ rows_for self.now domain }
+        ensures live { (entries : List Entry) → Represents self.now entries → mitigations_in result.now ≡ mitigations_of domain (mitigations self.now.time (map bare entries)) }
     {
         self.tables.rows(domain)
     }

@@ -2,7 +2,9 @@
 
 ghost use Rattle.std.specs.Prelude.{◌≡◌, ◌∷◌, [], IfSome, IfNone};
 ghost use Rattle.conflict_rules.specs.LiveViews.{of_cuid, live_views_of};
+ghost use Rattle.live_mitigations.specs.LiveRows.{mitigations_in};
 
+use crate::live_row::LiveRow;
 use crate::row::Row;
 use dots_history::Put;
 use std::marker::Model;
@@ -22,7 +24,7 @@ pub struct MitigationRow<'a> {
 /// The live mitigations of a client that are left.
 #[derive(Drop)]
 pub struct Mitigations<'a> {
-    left: &'a [Row],
+    left: &'a [LiveRow],
     cuid: &'a [u8],
     now: u64,
 }
@@ -30,16 +32,17 @@ pub struct Mitigations<'a> {
 impl<'a> Model for Mitigations<'a> {
     ghost use Rattle.std.specs.Prelude.{List};
     ghost use Rattle.conflict_rules.specs.LiveViews.{LiveView, live_views_of};
+    ghost use Rattle.live_mitigations.specs.LiveRows.{mitigations_in};
 
     ghost Value = { List LiveView };
 
-    ghost view = { λ rows. live_views_of rows.now rows.cuid.now rows.left.now };
+    ghost view = { λ rows. live_views_of rows.now rows.cuid.now (mitigations_in rows.left.now) };
 }
 
 impl<'a> Mitigations<'a> {
     /// Those of the client among these, at this time.
-    pub(crate) fn of(left: &'a [Row], cuid: &'a [u8], now: u64) -> Mitigations<'a>
-        ensures { result ≡ live_views_of now cuid.now left.now }
+    pub(crate) fn of(left: &'a [LiveRow], cuid: &'a [u8], now: u64) -> Mitigations<'a>
+        ensures { result ≡ live_views_of now cuid.now (mitigations_in left.now) }
     {
         Mitigations { left, cuid, now }
     }
@@ -68,14 +71,14 @@ impl<'a> Iterator for Mitigations<'a> {
 }
 
 /// The first of the client, and what stands behind it.
-fn next_of<'a>(rows: &'a [Row], cuid: &[u8]) -> Option<(&'a Row, &'a [Row])>
-    ensures none { IfNone result (of_cuid cuid.now rows.now ≡ []) }
-    ensures some { IfSome result (λ found. of_cuid cuid.now rows.now ≡ found.0.now ∷ of_cuid cuid.now found.1.now) }
+fn next_of<'a>(rows: &'a [LiveRow], cuid: &[u8]) -> Option<(&'a Row, &'a [LiveRow])>
+    ensures none { IfNone result (of_cuid cuid.now (mitigations_in rows.now) ≡ []) }
+    ensures some { IfSome result (λ found. of_cuid cuid.now (mitigations_in rows.now) ≡ found.0.now ∷ of_cuid cuid.now (mitigations_in found.1.now)) }
 {
     for (at, row) in rows.iter().enumerate() {
-        if row.cuid().bytes() == cuid {
+        if row.mitigation.cuid().bytes() == cuid {
             let (_, left) = rows.split_at(at + 1);
-            return Some((row, left));
+            return Some((&row.mitigation, left));
         }
     }
     None

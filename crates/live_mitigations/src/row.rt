@@ -13,7 +13,6 @@ ghost use Rattle.live_mitigations.specs.Rows.{is_left};
 ghost use Rattle.conflict_rules.specs.Lives.{put_or_nothing};
 ghost use Rattle.conflict_rules.specs.LiveViews.{fitted, status_number};
 
-use conflict_rules::Mitigates;
 use dots_history::{Change, Entry, Put, Status, is_granted_at, overlaps, put_of, withdrawn_mid};
 use dots_lists::Text;
 use std::marker::Model;
@@ -56,31 +55,6 @@ impl Model for Row {
       };
       status = row.status;
     } };
-}
-
-impl Mitigates for Row {
-    ghost use Rattle.conflict_rules.specs.Lives.{live_of};
-
-    ghost live = { live_of };
-
-    fn peer(&self) -> u32 {
-        self.peer
-    }
-
-    fn cuid(&self) -> &[u8] {
-        self.cuid.bytes()
-    }
-
-    fn put(&self) -> &Put {
-        &self.put
-    }
-
-    fn is_standing(&self) -> bool {
-        match self.status {
-            Status::Open => true,
-            Status::Withdrawn(_) | Status::Ended => false,
-        }
-    }
 }
 
 impl Row {

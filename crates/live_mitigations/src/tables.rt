@@ -8,10 +8,12 @@ ghost use Rattle.live_mitigations.specs.Ends.{never, first_end};
 ghost use Rattle.dots_history.specs.Slots.{Rises};
 ghost use Rattle.dots_history.specs.KeptPlaces.{union};
 ghost use Rattle.live_mitigations.specs.Rows.{LiveTable, AreEmpty, aged, noted, grown, update, rows_at, slots_of, any_row};
+ghost use Rattle.live_mitigations.specs.LiveRows.{mitigations_in};
 ghost use Rattle.live_mitigations.specs.Slots.{put_in};
 ghost use Rattle.live_mitigations.specs.Numbers.{all_numbers, table_renumbered};
 
 use crate::list::LiveList;
+use crate::live_row::LiveRow;
 use crate::row::Row;
 use dots_history::{Entry, SlotList};
 use dots_lists::NoMemory;
@@ -54,8 +56,8 @@ impl LiveTables {
     }
 
     /// Those of a domain; none where there is no such domain.
-    pub fn rows(&self, domain: u16) -> &[Row]
-        ensures { result.now ≡ rows_at domain self.now }
+    pub fn rows(&self, domain: u16) -> &[LiveRow]
+        ensures { mitigations_in result.now ≡ rows_at domain self.now }
     {
         match self.lists.get(usize::from(domain)) {
             Some(list) => list.rows(),

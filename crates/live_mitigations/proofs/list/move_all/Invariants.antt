@@ -1,7 +1,8 @@
 -- the rows before the one at hand are moved
 use Rattle.std.proofs.Common.{◌≡◌, ◌++◌, map, take, drop}
-use Rattle.dots_history.specs.Keeping.{moved}
+use Rattle.live_mitigations.specs.LiveRows.{row_moved}
 use Rattle.live_mitigations.proofs.list.move_all.Given as goal
 
 abbrev pub invariant-loop-row : goal.invariant-loop-row
-invariant-loop-row l = l.rows ≡ map (moved l.entry) (take l.row-index l.fn.rows) ++ drop l.row-index l.fn.rows
+invariant-loop-row l =
+    l.rows ≡ map (row_moved (record { entry = l.entry; slot = l.slot })) (take l.row-index l.fn.rows) ++ drop l.row-index l.fn.rows

@@ -1,5 +1,6 @@
 use Rattle.std.proofs.Common.{arith}
 use Rattle.held_resources.specs.Tables.{lost_in}
+use Rattle.live_mitigations.specs.LiveRows.{mitigations_in}
 use Rattle.installed_filters.specs.Filters.{is_over, works_at}
 use Rattle.installed_filters.proofs.Steps.{settle_step, settle_end}
 use Rattle.installed_filters.proofs.filters.InstalledFilters.settle_over.Goals as goal
@@ -10,7 +11,7 @@ loop-row-preserved c =
     c.args.domain
     (is_over c.args.now)
     (works_at (lost_in c.args.held.now) c.args.now)
-    c.args.rows.now
+    (mitigations_in c.args.rows.now)
     c.loop-row.row-index
     c.args.rows.now
     _
@@ -28,7 +29,7 @@ returns c =
     c.args.domain
     (is_over c.args.now)
     (works_at (lost_in c.args.held.now) c.args.now)
-    c.args.rows.now
+    (mitigations_in c.args.rows.now)
     c.loop-row.row-index
     c.args.rows.now
     c.loop-row.self
