@@ -38,3 +38,4 @@ pub mod Shrinking
 pub mod Peers
 pub mod Gatherings
 pub mod RowsInTurn
+pub mod InDomains

@@ -52,6 +52,21 @@ impl Ledger {
         &self.registry
     }
 
+    /// How many slots of the half in use hold an entry.
+    pub fn used(&self) -> u32
+        ensures used { result ≡ self.now.journal.used }
+        ensures fits { result ≤ self.now.journal.slots }
+    {
+        self.journal.used()
+    }
+
+    /// How many slots a half of the journal has. An entry that finds none free makes the journal compact.
+    pub fn slots(&self) -> u32
+        ensures { result ≡ self.now.journal.slots }
+    {
+        self.journal.slots()
+    }
+
     /// Moves the time, in seconds, below 2^64 - 1, and takes out of the tables what is over then. The disk stays as it is. The answer has
     /// the domains of which something is over, as that of [`Registry::tick`].
     pub fn tick(&mut self, now: u64) -> DueAmong

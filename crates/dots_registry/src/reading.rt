@@ -1,14 +1,16 @@
 //! What is read of a registry.
 
-ghost use Rattle.std.specs.Prelude.{◌≡◌, ◌<◌, ◌==◌, ◌&&◌, List, option_copied, option_map};
+ghost use Rattle.std.specs.Prelude.{◌≡◌, ◌<◌, ◌==◌, ◌&&◌, List, length, option_copied, option_map};
 ghost use Rattle.std.specs.List.{list_any};
 ghost use Rattle.dots_history.specs.declared.entry.Entry.{Entry};
 ghost use Rattle.dots_history.specs.Histories.{mitigations, held, remembered};
 ghost use Rattle.dots_history.specs.Rows.{is_lost_in};
 ghost use Rattle.dots_history.specs.HistoryReading.{is_mitigated, is_waiting};
+ghost use Rattle.dots_history.specs.Views.{mitigations_of};
 ghost use Rattle.dots_history.specs.Held.{aliases_of, acls_of, alias_named, acl_named, is_registered, registrant, is_of_another, config_of, is_lost_of};
 ghost use Rattle.held_resources.specs.Numbers.{number_of, reached};
 ghost use Rattle.held_resources.specs.Tables.{most_of, config_now};
+ghost use Rattle.live_mitigations.specs.LiveRows.{mitigations_in};
 ghost use Rattle.dots_registry.specs.RegistryValues.{Represents, time_of, domains_of, number_remembered};
 ghost use Rattle.conflict_rules.specs.ByHistory.{collides};
 ghost use Rattle.conflict_rules.specs.Statuses.{views_in};
@@ -19,7 +21,7 @@ use acl_lists::{Acl, Alias};
 use dots_history::Config;
 use dots_lists::Name;
 use held_resources::RoomKind;
-use live_mitigations::Row;
+use live_mitigations::LiveRow;
 
 impl Registry {
     /// The reply to a repeat of a message of this peer for this domain with this Message ID (RFC 7252, section 4.5).
@@ -147,6 +149,23 @@ impl Registry {
         self.held.config(peer)
     }
 
+    /// How many mitigations of the domain are live.
+    pub fn live_in(&self, domain: u16) -> usize
+        requires { domain < domains_of self.now }
+        ensures { (entries : List Entry) → Represents self.now entries
+            → result ≡ length (mitigations_of domain (mitigations (time_of self.now) entries)) }
+    {
+        self.live.rows(domain).len()
+    }
+
+    /// How many registered clients the domain has, or how many aliases or access lists the client.
+    pub fn number_of(&self, kind: RoomKind, domain: u16, cuid: &[u8]) -> usize
+        ensures { (entries : List Entry) → Represents self.now entries
+            → result ≡ number_of kind (record { domain = domain; cuid = cuid.now }) (held entries) }
+    {
+        self.held.number_of(kind, domain, cuid)
+    }
+
     /// None where the client's domain has room for one more client, or the client for one more alias or access list; else
     /// the number that there may be, which is reached.
     pub fn room_for(&self, domain: u16, cuid: &[u8], kind: RoomKind) -> Option<u64>
@@ -158,8 +177,8 @@ impl Registry {
 }
 
 /// Whether one of these mitigations has this peer.
-fn is_of_peer(rows: &[Row], peer: u32) -> bool
-    ensures { result ≡ list_any (λ m. m.put.peer == peer) rows.now }
+fn is_of_peer(rows: &[LiveRow], peer: u32) -> bool
+    ensures { result ≡ list_any (λ m. m.put.peer == peer) (mitigations_in rows.now) }
 {
-    rows.iter().any(|row| row.peer() == peer)
+    rows.iter().any(|row| row.mitigation.peer() == peer)
 }

@@ -3,6 +3,7 @@
 ghost use Rattle.std.specs.Prelude.{◌≡◌, ◌≤◌, ℕ, Bool, ◌&&◌, bytes_eq, ◌<◌, List, length, slice_get};
 ghost use Rattle.dots_history.specs.declared.entry.Entry.{Entry};
 ghost use Rattle.held_resources.specs.Tables.{lost_in};
+ghost use Rattle.live_mitigations.specs.LiveRows.{mitigations_in};
 ghost use Rattle.conflict_rules.specs.LiveViews.{live_view, status_number};
 ghost use Rattle.dots_registry.specs.RegistryValues.{Represents, time_of, domains_of};
 ghost use Rattle.dots_registry.specs.ObserverViews.{seen, seen_of, views_among, seen_among, is_wanted, views_of};
@@ -13,7 +14,7 @@ use crate::statuses::status_by;
 use coap_observe::Views;
 use dots_history::Status;
 use held_resources::HeldResources;
-use live_mitigations::Row;
+use live_mitigations::{LiveRow, Row};
 
 /// The most mitigations that an observer sees.
 const MAX_SEEN: usize = 64;
@@ -48,7 +49,7 @@ impl Registry {
 /// The live mitigations of a domain, with what says whose signal is lost.
 #[derive(Drop)]
 struct DomainRows<'a> {
-    rows: &'a [Row],
+    rows: &'a [LiveRow],
     domain: u16,
     held: &'a HeldResources,
 }
@@ -63,7 +64,7 @@ impl Views for Registry {
 
 /// What there is to see at this place of the client's mitigations, or of the one of this mid, up to the most.
 fn view_of(among: &DomainRows, cuid: &[u8], mid: Option<u32>, place: usize) -> Option<(u32, u8)>
-    ensures { (t : ℕ) → result ≡ slice_get (seen_of mid (views_among (lost_in among.now.held.now) among.now.domain t cuid.now among.now.rows.now)) place }
+    ensures { (t : ℕ) → result ≡ slice_get (seen_of mid (views_among (lost_in among.now.held.now) among.now.domain t cuid.now (mitigations_in among.now.rows.now))) place }
 {
     if place < MAX_SEEN {
         return seen_at(among, cuid, mid, place);
@@ -72,15 +73,15 @@ fn view_of(among: &DomainRows, cuid: &[u8], mid: Option<u32>, place: usize) -> O
 }
 
 fn seen_at(among: &DomainRows, cuid: &[u8], mid: Option<u32>, place: usize) -> Option<(u32, u8)>
-    ensures { (t : ℕ) → result ≡ slice_get (seen_among (lost_in among.now.held.now) among.now.domain t cuid.now mid among.now.rows.now) place }
+    ensures { (t : ℕ) → result ≡ slice_get (seen_among (lost_in among.now.held.now) among.now.domain t cuid.now mid (mitigations_in among.now.rows.now)) place }
 {
     let mut before = place;
     for row in among.rows {
-        if !is_seen(row, cuid, mid) {
+        if !is_seen(&row.mitigation, cuid, mid) {
             continue;
         }
         if before == 0 {
-            return Some(seen(row, among.domain, among.held));
+            return Some(seen(&row.mitigation, among.domain, among.held));
         }
         before -= 1;
     }

@@ -233,7 +233,8 @@ impl HeldResources {
         )
     }
 
-    fn number_of(&self, kind: RoomKind, domain: u16, cuid: &[u8]) -> usize
+    /// How many registered clients the domain has, or how many aliases or access lists the client.
+    pub fn number_of(&self, kind: RoomKind, domain: u16, cuid: &[u8]) -> usize
         ensures { (entries : List Entry) → Represents self.now entries → result ≡ number_of kind (record { domain = domain; cuid = cuid.now }) (held entries) }
     {
         match kind {

@@ -1,7 +1,9 @@
 use Rattle.std.proofs.Common.{◌<◌, Some, ap, sym, ◌∙◌, drop, arith}
 use Rattle.std.specs.Prelude.{slice_get}
 use Rattle.held_resources.specs.Tables.{lost_in}
+use Rattle.live_mitigations.specs.LiveRows.{mitigations_in}
 use Rattle.dots_registry.specs.ObserverViews.{seen_among}
+use Rattle.live_mitigations.proofs.LiveRows.{within, there}
 use Rattle.dots_registry.proofs.Seeing.{skipped, passed, found_here}
 use Rattle.dots_registry.proofs.viewing.seen_at.Goals as goal
 
@@ -14,13 +16,13 @@ returns-then-before-eq0 c = λ t.
     t
     c.args.cuid.now
     c.args.mid
-    c.row-item.result
-    c.args.among.now.rows.now
+    c.row-item.result.mitigation
+    (mitigations_in c.args.among.now.rows.now)
     c.loop-row.row-index
-    c.loop-row-test.true
-    c.row-item.is
+    (within c.args.among.now.rows.now c.loop-row.row-index c.loop-row-test.true)
+    (there c.args.among.now.rows.now c.loop-row.row-index c.row-item.result c.loop-row-test.true c.row-item.is)
     (sym (c.is_seen.ensures (lost_in c.args.among.now.held.now) c.args.among.now.domain t) ∙ c.if-not-is_seen.false))
-    ∙ ap (slice_get (seen_among (lost_in c.args.among.now.held.now) c.args.among.now.domain t c.args.cuid.now c.args.mid (drop c.loop-row.row-index c.args.among.now.rows.now))) (sym c.if-before-eq0.true)
+    ∙ ap (slice_get (seen_among (lost_in c.args.among.now.held.now) c.args.among.now.domain t c.args.cuid.now c.args.mid (drop c.loop-row.row-index (mitigations_in c.args.among.now.rows.now)))) (sym c.if-before-eq0.true)
     ∙ c.loop-row.invariant.so_far t
 
 pub loop-row-preserved : goal.loop-row-preserved
@@ -34,13 +36,13 @@ loop-row-preserved c =
           t
           c.args.cuid.now
           c.args.mid
-          c.row-item.result
-          c.args.among.now.rows.now
+          c.row-item.result.mitigation
+          (mitigations_in c.args.among.now.rows.now)
           c.loop-row.row-index
           c.loop-row.before
-          (slice_get (seen_among (lost_in c.args.among.now.held.now) c.args.among.now.domain t c.args.cuid.now c.args.mid c.args.among.now.rows.now) c.args.place)
-          c.loop-row-test.true
-          c.row-item.is
+          (slice_get (seen_among (lost_in c.args.among.now.held.now) c.args.among.now.domain t c.args.cuid.now c.args.mid (mitigations_in c.args.among.now.rows.now)) c.args.place)
+          (within c.args.among.now.rows.now c.loop-row.row-index c.loop-row-test.true)
+          (there c.args.among.now.rows.now c.loop-row.row-index c.row-item.result c.loop-row-test.true c.row-item.is)
           (sym (c.is_seen.ensures (lost_in c.args.among.now.held.now) c.args.among.now.domain t) ∙ c.if-not-is_seen.false)
           some
           (c.loop-row.invariant.so_far t);
@@ -55,13 +57,13 @@ loop-row-preserved-then-not-is_seen c = record {
       t
       c.args.cuid.now
       c.args.mid
-      c.row-item.result
-      c.args.among.now.rows.now
+      c.row-item.result.mitigation
+      (mitigations_in c.args.among.now.rows.now)
       c.loop-row.row-index
       c.loop-row.before
-      (slice_get (seen_among (lost_in c.args.among.now.held.now) c.args.among.now.domain t c.args.cuid.now c.args.mid c.args.among.now.rows.now) c.args.place)
-      c.loop-row-test.true
-      c.row-item.is
+      (slice_get (seen_among (lost_in c.args.among.now.held.now) c.args.among.now.domain t c.args.cuid.now c.args.mid (mitigations_in c.args.among.now.rows.now)) c.args.place)
+      (within c.args.among.now.rows.now c.loop-row.row-index c.loop-row-test.true)
+      (there c.args.among.now.rows.now c.loop-row.row-index c.row-item.result c.loop-row-test.true c.row-item.is)
       (sym (c.is_seen.ensures (lost_in c.args.among.now.held.now) c.args.among.now.domain t) ∙ c.if-not-is_seen.true)
       (c.loop-row.invariant.so_far t);
 }

@@ -1,6 +1,8 @@
 use Rattle.std.proofs.Common.{List, ap, ◌∙◌, sym, subst, map}
 use Rattle.dots_history.specs.Histories.{Mitigation, held}
 use Rattle.conflict_rules.specs.Lives.{live_of, lives_of}
+use Rattle.live_mitigations.specs.declared.live_row.LiveRow.{LiveRow}
+use Rattle.live_mitigations.proofs.LiveRows.{lives_alike}
 use Rattle.live_mitigations.proofs.Room.{lives_are}
 use Rattle.dots_history.specs.Held.{aliases_of, registrant}
 use Rattle.conflict_rules.specs.Requests.{Request}
@@ -15,7 +17,7 @@ returns c = λ entries represents.
     = subst (λ (r : RegistryValue). Represents r entries) (sym c.self.view_is) represents in
     judged_is
     c.args.settings.now
-    (map live_of c.rows-live.result.now)
+    (map (λ (row : LiveRow). live_of row.mitigation) c.rows-live.result.now)
     (lives_of c.args.domain (time_of c.args.self.now) entries)
     c.registrant.result
     (registrant (record { domain = c.args.domain; cuid = c.args.request.now.cuid }) (held entries))
@@ -25,7 +27,8 @@ returns c = λ entries represents.
     (time_of c.args.self.now)
     c.args.request.now
     c.judge_put.result
-    (ap (λ (ms : List Mitigation). map live_of ms) (c.rows-live.ensures.live entries here.live)
+    (lives_alike c.rows-live.result.now
+    ∙ ap (λ (ms : List Mitigation). map live_of ms) (c.rows-live.ensures.live entries here.live)
     ∙ lives_are c.self.inside.live.time c.args.domain entries
     ∙ ap (λ (r : RegistryValue). lives_of c.args.domain (time_of r) entries) c.self.view_is)
     (c.registrant.ensures entries here.held
