@@ -1,0 +1,6 @@
+use Rattle.std.proofs.Common.{append_assoc, append-nil, arith}
+use Rattle.std.proofs.lemmas.Grind.{take_at_read, flat_map-append}
+use Rattle.server_figures.proofs.spelling.add_bytes.Goals as goal
+
+pub loop-byte-preserved : goal.loop-byte-preserved
+loop-byte-preserved c = record { added = grind (arith, take_at_read, flat_map-append, append_assoc, append-nil) }
