@@ -26,7 +26,7 @@ const MAX_EVENTS: u64 = 1 << 40;
 
 /// Takes one event after the other, and answers the server as it is at End; else how the events stopped. The room has the bytes of one
 /// event. Behind each tick the server is shown to the onlooker.
-pub fn take_events<H: Host, W: Onlooker>(
+pub fn take_events<H: Host, W: Onlooker<H>>(
     server: Server,
     host: &mut H,
     room: &mut [u8],
@@ -69,7 +69,7 @@ pub fn take_events<H: Host, W: Onlooker>(
                 Err(fault) => return Err(Stop::Unrecovered(fault)),
             },
             _ => match server.handle(host, &got, room) {
-                Ok(()) => show(&server, got.what, onlooker),
+                Ok(()) => show(host, &server, got.what, onlooker),
                 Err(_) => {
                     server.let_go();
                     return Err(Stop::DiskFailed);

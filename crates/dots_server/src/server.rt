@@ -26,7 +26,7 @@ ghost use Rattle.dots_registry.specs.ObserverViews.{views_of};
 ghost use Rattle.session_core.specs.Contacts.{heard_from, unheard, number_of};
 ghost use Rattle.session_core.specs.Beats.{beats};
 ghost use Rattle.session_core.specs.Notifying.{SentTo, IsKnown, OnlyUnheardAreDue};
-ghost use Rattle.dots_server.specs.ServerValues.{observers_of, Represents, RestartsWith, IsAcceptable, CanCarryOut, IsAccepted};
+ghost use Rattle.dots_server.specs.ServerValues.{observers_of, ledger_of, Represents, RestartsWith, IsAcceptable, CanCarryOut, IsAccepted};
 ghost use Rattle.dots_server.specs.HearingPeers.{beaten};
 ghost use Rattle.dots_server.specs.Taking.{Took, BrokeOff, Answered, Failing, DatagramTaken, DatagramBroke};
 ghost use Rattle.dots_server.specs.Asking.{IsCome};
@@ -191,6 +191,13 @@ impl Server {
         ensures { result.now ≡ self.now.registry }
     {
         self.ledger.registry()
+    }
+
+    /// The journal of what was accepted, and its tables.
+    pub fn ledger(&self) -> &Ledger
+        ensures { result.now ≡ ledger_of self.now }
+    {
+        &self.ledger
     }
 
     /// Takes one event, its bytes at the front of the room: one step of the machine, by its turns. What a turn accepts is on the disk and in the
