@@ -9,7 +9,7 @@ use Rattle.ip_scope.specs.declared.family.Family.{Family}
 use Rattle.ip_scope.specs.declared.family.Family.TheVariants.{V4, V6}
 use Rattle.ip_scope.specs.PrefixText.{IsAddressText}
 use Rattle.ip_scope.proofs.AddressTexts.{IsAddressText_unique}
-use Rattle.dots_edge.specs.HostLine.{LineValue, IsHostText, IsEndpointText, AreFields, word_of, journal_line, signal_line, http_line, peer_line, reserve_line, events_line, filters_line, filters_nft_line}
+use Rattle.dots_edge.specs.HostLine.{LineValue, IsHostText, IsEndpointText, AreFields, word_of, journal_line, signal_line, http_line, peer_line, reserve_line, events_line, filters_line, filters_nft_line, figures_line}
 
 abbrev pub NoColon : List ℕ → Type 0
 NoColon text = (k : ℕ) → k < length text → get_or text k 0 ≢ 58
@@ -96,6 +96,7 @@ no_signal text fields is none (reserve_line bytes) word behind = absurd (other_w
 no_signal text fields is none (events_line count) word behind = absurd (other_word _ _ word refl refl)
 no_signal text fields is none (filters_line path) word behind = absurd (other_word _ _ word refl refl)
 no_signal text fields is none (filters_nft_line path) word behind = absurd (other_word _ _ word refl refl)
+no_signal text fields is none (figures_line path) word behind = absurd (other_word _ _ word refl refl)
 
 pub no_http : (text : List ℕ) (fields : List (List ℕ)) → fields ≡ text ∷ [] → ((address : Addr) (port : ℕ) → ¬ (IsEndpointText text address port))
     → (value : LineValue) → word_of value ≡ codes "http" → ¬ (AreFields fields value)
@@ -108,3 +109,4 @@ no_http text fields is none (reserve_line bytes) word behind = absurd (other_wor
 no_http text fields is none (events_line count) word behind = absurd (other_word _ _ word refl refl)
 no_http text fields is none (filters_line path) word behind = absurd (other_word _ _ word refl refl)
 no_http text fields is none (filters_nft_line path) word behind = absurd (other_word _ _ word refl refl)
+no_http text fields is none (figures_line path) word behind = absurd (other_word _ _ word refl refl)

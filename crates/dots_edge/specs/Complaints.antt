@@ -53,7 +53,7 @@ JudgesPeer rest found = MatchOption found
 -- behind the word stands a path
 abbrev pub names_file : List ℕ → Bool
 names_file word =
-    bytes_eq word (codes "journal") || (bytes_eq word (codes "filters") || bytes_eq word (codes "filters-nft"))
+    bytes_eq word (codes "journal") || (bytes_eq word (codes "filters") || (bytes_eq word (codes "filters-nft") || bytes_eq word (codes "figures")))
 
 -- of all fields of a line: by its first word, or that this is none
 abbrev pub Judges : List (List ℕ) → Option Complaint → Type 0

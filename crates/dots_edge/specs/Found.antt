@@ -1,6 +1,6 @@
 -- The lines of which a host file has one.
 use Rattle.std.specs.Prelude.{ℕ, Bool, true, false, List, [], ◌∷◌, Option, Some, None}
-use Rattle.dots_edge.specs.HostLine.{LineValue, journal_line, reserve_line, events_line, filters_line, filters_nft_line}
+use Rattle.dots_edge.specs.HostLine.{LineValue, journal_line, reserve_line, events_line, filters_line, filters_nft_line, figures_line}
 
 -- how many events the first line that says it lets come
 abbrev pub events_in : List LineValue → Option ℕ
@@ -36,3 +36,9 @@ abbrev pub filters_nft_in : List LineValue → Option (List ℕ)
 filters_nft_in [] = None
 filters_nft_in (filters_nft_line path ∷ values) = Some path
 filters_nft_in (value ∷ values) = filters_nft_in values
+
+-- the path of the first line that says where the figures are written
+abbrev pub figures_in : List LineValue → Option (List ℕ)
+figures_in [] = None
+figures_in (figures_line path ∷ values) = Some path
+figures_in (value ∷ values) = figures_in values

@@ -18,6 +18,7 @@ pub data LineValue : Type 0 where
   events_line : (count : ℕ) → LineValue
   filters_line : (path : List ℕ) → LineValue
   filters_nft_line : (path : List ℕ) → LineValue
+  figures_line : (path : List ℕ) → LineValue
 
 -- a line without where its path stands
 abbrev pub line_value : HostLine → LineValue
@@ -29,6 +30,7 @@ line_value (line.Reserve bytes) = reserve_line bytes
 line_value (line.Events count) = events_line count
 line_value (line.Filters path) = filters_line path.now
 line_value (line.FiltersNft path) = filters_nft_line path.now
+line_value (line.Figures path) = figures_line path.now
 
 -- an address as it stands before a port: one of IPv6 in brackets
 abbrev pub IsHostText : List ℕ → Family → ℕ → Type 0
@@ -57,6 +59,7 @@ word_of (reserve_line bytes) = codes "reserve"
 word_of (events_line count) = codes "events"
 word_of (filters_line path) = codes "filters"
 word_of (filters_nft_line path) = codes "filters-nft"
+word_of (figures_line path) = codes "figures"
 
 -- one field, which is a path
 abbrev pub ArePath : List (List ℕ) → List ℕ → Type 0
@@ -73,6 +76,7 @@ AreFields fields (reserve_line bytes) = (fields ≡ decimal bytes ∷ []) × (by
 AreFields fields (events_line count) = (fields ≡ decimal count ∷ []) × (count < 10 ^ 19)
 AreFields fields (filters_line path) = ArePath fields path
 AreFields fields (filters_nft_line path) = ArePath fields path
+AreFields fields (figures_line path) = ArePath fields path
 
 -- the line says this
 pub record Says (text : List ℕ) (value : LineValue) : Type 0 where
@@ -111,6 +115,7 @@ abbrev pub path_in : LineValue → Option (List ℕ)
 path_in (journal_line path) = Some path
 path_in (filters_line path) = Some path
 path_in (filters_nft_line path) = Some path
+path_in (figures_line path) = Some path
 path_in _ = None
 
 -- the paths are one, or the one is the name under which the file of the other is written first
@@ -128,6 +133,7 @@ same_question (reserve_line bytes) (reserve_line other) = true
 same_question (events_line count) (events_line other) = true
 same_question (filters_line path) (filters_line other) = true
 same_question (filters_nft_line path) (filters_nft_line other) = true
+same_question (figures_line path) (figures_line other) = true
 same_question (peer_line number address port) (peer_line n other p) = key_of address == key_of other
 same_question _ _ = false
 

@@ -12,7 +12,7 @@ use dots_lists::{one_field, parse_decimal, split_field, two_fields};
 /// Why a line has none of the forms, or can't stand behind those above it.
 #[derive(Clone, Copy)]
 pub enum Reason {
-    /// The first word is none of `journal`, `reserve`, `signal`, `http`, `peer`, `events`, `filters` and `filters-nft`.
+    /// The first word is none of `journal`, `reserve`, `signal`, `http`, `peer`, `events`, `filters`, `filters-nft` and `figures`.
     Word,
     /// Behind this word stands one field, one space away.
     OneField,
@@ -140,7 +140,10 @@ fn judge_alone(line: &[u8]) -> Option<Complaint>
 fn names_file(word: &[u8]) -> bool
     ensures { result ≡ names_file word.now }
 {
-    is_word(word, b"journal") || is_word(word, b"filters") || is_word(word, b"filters-nft")
+    is_word(word, b"journal")
+        || is_word(word, b"filters")
+        || is_word(word, b"filters-nft")
+        || is_word(word, b"figures")
 }
 
 fn judge_path(rest: &[u8]) -> Option<Complaint>

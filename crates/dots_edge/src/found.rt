@@ -2,7 +2,7 @@
 
 ghost use Rattle.std.specs.Prelude.{◌≡◌, map, Some, is_some, IfSome};
 ghost use Rattle.dots_edge.specs.HostLine.{line_value};
-ghost use Rattle.dots_edge.specs.Found.{events_in, has_journal, journal_in, reserve_in, filters_in, filters_nft_in};
+ghost use Rattle.dots_edge.specs.Found.{events_in, has_journal, journal_in, reserve_in, filters_in, filters_nft_in, figures_in};
 
 use crate::host_line::HostLine;
 
@@ -63,6 +63,19 @@ pub fn filters_nft_in<'a>(lines: &[HostLine<'a>]) -> Option<&'a str>
 {
     for line in lines {
         if let HostLine::FiltersNft { path } = line {
+            return Some(*path);
+        }
+    }
+    None
+}
+
+/// The path of the file for the figures, where a line has one.
+pub fn figures_in<'a>(lines: &[HostLine<'a>]) -> Option<&'a str>
+    ensures is_some { is_some result ≡ is_some (figures_in (map line_value lines.now)) }
+    ensures path { IfSome result (λ path. figures_in (map line_value lines.now) ≡ Some path.now) }
+{
+    for line in lines {
+        if let HostLine::Figures { path } = line {
             return Some(*path);
         }
     }

@@ -48,6 +48,10 @@ pub enum HostLine<'a> {
     FiltersNft {
         path: &'a str,
     },
+    /// `figures PATH`: the file in which the figures of the server stand.
+    Figures {
+        path: &'a str,
+    },
 }
 
 /// The IPv6 addresses that stand for IPv4 ones begin here (RFC 4291, section 2.5.5.2).
@@ -98,6 +102,7 @@ fn path_of_line<'a>(line: &HostLine<'a>) -> Option<&'a str>
         HostLine::Journal { path } => Some(*path),
         HostLine::Filters { path } => Some(*path),
         HostLine::FiltersNft { path } => Some(*path),
+        HostLine::Figures { path } => Some(*path),
         _ => None,
     }
 }
@@ -124,6 +129,7 @@ fn same_question(one: &HostLine<'_>, other: &HostLine<'_>) -> bool
         (HostLine::Events { .. }, HostLine::Events { .. }) => true,
         (HostLine::Filters { .. }, HostLine::Filters { .. }) => true,
         (HostLine::FiltersNft { .. }, HostLine::FiltersNft { .. }) => true,
+        (HostLine::Figures { .. }, HostLine::Figures { .. }) => true,
         (HostLine::Peer { address, .. }, HostLine::Peer { address: other, .. }) => {
             key_of(*address) == key_of(*other)
         }

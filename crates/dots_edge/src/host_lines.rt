@@ -44,6 +44,9 @@ pub fn parse_line(line: &[u8]) -> Option<HostLine<'_>>
     if is_word(word, b"filters-nft") {
         return filters_nft_of(fields);
     }
+    if is_word(word, b"figures") {
+        return figures_of(fields);
+    }
     None
 }
 
@@ -125,6 +128,14 @@ fn filters_nft_of(fields: &[u8]) -> Option<HostLine<'_>>
     let field = one_field(fields)?;
     let path = path_of(field)?;
     Some(HostLine::FiltersNft { path })
+}
+
+fn figures_of(fields: &[u8]) -> Option<HostLine<'_>>
+    ensures { ReadsBehind (codes "figures") fields.now result }
+{
+    let field = one_field(fields)?;
+    let path = path_of(field)?;
+    Some(HostLine::Figures { path })
 }
 
 /// The path that the field is: some UTF-8 text.

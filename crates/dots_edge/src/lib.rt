@@ -2,7 +2,7 @@
 //!
 //! A host file says which. [`read_host_file`] reads it: `specs/HostLine.antt` has the forms of its lines, `specs/HostFile.antt` what the lines come
 //! to, or the first fault, and [`complaint_about`] says of the line at fault which field is to be mended, and why (`specs/Complaints.antt`).
-//! [`FileSocketHost`] opens what it names. Files for other programs are replaced as a whole ([`write_whole_file`]). `docs/OPERATING.md` says for
+//! [`FileSocketHost`] opens what it names. Files for other programs are replaced as a whole ([`WholeFile`]). `docs/OPERATING.md` says for
 //! an operator how it behaves.
 //!
 //! What a socket, a file or a clock does no contract can say. So of the host it is proved that it is safe, that it fails only where it
@@ -37,6 +37,7 @@ mod connections;
 mod endpoint_text;
 mod endpoints;
 mod ends;
+mod file_log;
 mod file_socket_host;
 mod found;
 mod getter;
@@ -67,8 +68,9 @@ mod whole_file;
 
 pub use complaint::{Complaint, Reason, complaint_about};
 pub use endpoints::Endpoints;
+pub use file_log::FileLog;
 pub use file_socket_host::FileSocketHost;
-pub use found::{events_in, filters_in, filters_nft_in, journal_in, reserve_in};
+pub use found::{events_in, figures_in, filters_in, filters_nft_in, journal_in, reserve_in};
 pub use getter::Getter;
 pub use getters::MAX_GETTERS;
 pub use head::{Head, read_head};
@@ -79,4 +81,4 @@ pub use journal::room_of;
 pub use journal_reader::{FoundJournal, JournalReader};
 pub use reading::read_host_file;
 pub use way::Way;
-pub use whole_file::write_whole_file;
+pub use whole_file::WholeFile;
