@@ -1,5 +1,5 @@
 -- What is taken by a ledger.
-use Rattle.std.proofs.Common.{◌≡◌, ℕ, List, [], ◌∷◌, ◌++◌, Option, Some, None, ◌≤◌, max, le_refl, refl, sym, ap, ◌∙◌, subst, true, ◌&&◌}
+use Rattle.std.proofs.Common.{◌≡◌, ℕ, List, [], Option, Some, ◌≤◌, max, le_refl, sym, ap, ◌∙◌, subst, true, false, ◌&&◌}
 use Rattle.std.specs.Prelude.{Result, Ok, Err, OnOk, nat_le}
 use Rattle.dots_host.specs.Media.{Media, byte_of, blank}
 use Rattle.dots_host.specs.Becoming.{RestsWith}
@@ -7,7 +7,7 @@ use Rattle.dots_settings.specs.Settings.{SettingsValue}
 use Rattle.dots_history.specs.declared.entry.Entry.{Entry}
 use Rattle.dots_history.specs.Bounds.{within_bounds}
 use Rattle.dots_history.specs.Fits.{joins, last_time}
-use Rattle.std.proofs.lemmas.Bool.{and_from, le-leb}
+use Rattle.std.proofs.lemmas.Bool.{and_from, and_parts, le-leb}
 use Rattle.slot_store.proofs.Steps.{rests_as}
 use Rattle.slot_journal.specs.DiskEntries as journal
 use Rattle.slot_journal.proofs.Crashing.{one_history, zeros_have_nothing, represents_has}
@@ -47,6 +47,15 @@ pub on_ok_then : {A E P R : Type 0} (result : Result A E) → (P → R) → OnOk
 on_ok_then (Ok x) goes is = goes is
 on_ok_then (Err fault) goes is = tt
 
+pub on_ok_both : {A E P Q R : Type 0} (result : Result A E) → (P → Q → R) → OnOk result P → OnOk result Q → OnOk result R
+on_ok_both (Ok x) goes is also = goes is also
+on_ok_both (Err fault) goes is also = tt
+
+-- what joins at a time joins
+pub joins_of : (settings : SettingsValue) (t : ℕ) (history : List Entry) (e : Entry) → joins_at settings t history e ≡ true → joins settings history e ≡ true
+joins_of settings t history e is =
+    (and_parts (nat_le t e.time) (joins settings history e) (and_parts (within_bounds e) (nat_le t e.time && joins settings history e) is).1).1
+
 -- what joins the tables joins the history of which they are
 pub joins_then : (settings : SettingsValue) (r : RegistryValue) (history : List Entry) (e : Entry) → time_of r ≡ e.time → within_bounds e ≡ true → joins_now settings r history e ≡ true
     → joins_at settings (time_of r) history e ≡ true
@@ -56,6 +65,10 @@ joins_then settings r history e at within is =
     (nat_le (time_of r) e.time && joins settings history e)
     within
     (and_from (nat_le (time_of r) e.time) (joins settings history e) (le-leb (time_of r) e.time (subst (λ t. time_of r ≤ t) at (le_refl (time_of r)))) (sym (joined settings r history e at within) ∙ is))
+
+pub joins_not : (settings : SettingsValue) (r : RegistryValue) (history : List Entry) (e : Entry) → time_of r ≡ e.time → within_bounds e ≡ true → joins_now settings r history e ≡ false
+    → joins settings history e ≡ false
+joins_not settings r history e at within out = sym (joined settings r history e at within) ∙ out
 
 -- the disk of a ledger has calm entries
 pub taken_calm : (settings : SettingsValue) (ledger : LedgerValue) (media : Option Media) → HasTakenSome settings ledger media → RestsWith media (HasCalm settings)

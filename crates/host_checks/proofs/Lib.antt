@@ -15,3 +15,6 @@ pub mod Naming
 pub mod WholeImages
 pub mod Ledgers
 pub mod Picking
+pub mod NamedEntries
+pub mod TakenInTurn
+pub mod MadeOf

@@ -123,11 +123,11 @@ other_taken new number e there (Some x) other calm less =
     })
     (λ out. record { calm = calm; same = refl; times = less })
 
-some_of : (b : Bool) (o : Option Entry) (x : Entry) → cond b None o ≡ Some x → o ≡ Some x
+pub some_of : (b : Bool) (o : Option Entry) (x : Entry) → cond b None o ≡ Some x → o ≡ Some x
 some_of true o x is = absurd (none-some x is)
 some_of false o x is = is
 
-mapped : (e : Entry) (o : Option ℕ) (x : Entry) → option_map (with_domain e) o ≡ Some x → (o ≡ Some x.domain) × (x.time ≡ e.time)
+pub mapped : (e : Entry) (o : Option ℕ) (x : Entry) → option_map (with_domain e) o ≡ Some x → (o ≡ Some x.domain) × (x.time ≡ e.time)
 mapped e None x is = absurd (none-some x is)
 mapped e (Some n) x is = let same = same_Some (with_domain e n) x is in (ap (λ (y : Entry). Some y.domain) same, sym (ap (λ (y : Entry). y.time) same))
 

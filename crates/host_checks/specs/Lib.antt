@@ -7,6 +7,7 @@ pub mod Journals
 pub mod Listings
 pub mod Reasons
 pub mod Filters
+pub mod Shown
 pub mod Migrating
 pub mod Leavings
 pub mod KeptEntries

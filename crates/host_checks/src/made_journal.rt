@@ -1,14 +1,17 @@
 //! The journal of other settings, made of what counts in one.
 
-ghost use Rattle.std.specs.Prelude.{◌≡◌, ◌≤◌, ◌<◌, ◌^◌, [], Some, IfOk, OnOk};
+ghost use Rattle.std.specs.Prelude.{◌≡◌, ◌≤◌, ◌<◌, ◌^◌, ℕ, List, [], map, Some, IfOk, OnOk};
 ghost use Rattle.std.specs.List.{AllByRecursion};
 ghost use Rattle.dots_host.specs.Media.{blank};
 ghost use Rattle.dots_host.specs.Stored.{media_of};
 ghost use Rattle.dots_host.specs.Becoming.{RestsWith};
+ghost use Rattle.dots_history.specs.Histories.{Within};
+ghost use Rattle.dots_history.specs.Filed.{Filed, entry_of};
 ghost use Rattle.slot_store.specs.Layout.{needed_of};
+ghost use Rattle.slot_store.specs.Gates.{Sees};
 ghost use Rattle.dots_registry.specs.RegistryValues.{time_of};
-ghost use Rattle.host_checks.specs.KeptEntries.{IsBounded};
-ghost use Rattle.host_checks.specs.Making.{HasTaken, HasCalm};
+ghost use Rattle.host_checks.specs.KeptEntries.{IsBounded, judged};
+ghost use Rattle.host_checks.specs.Making.{HasTaken, HasCalm, IsMadeFrom, IsFilledWith, HasNamed, HasCounting};
 
 use crate::kept_entry::{KeptEntry, pick};
 use crate::migrating::take_all;
@@ -66,7 +69,11 @@ pub fn make_journal<D: Disk>(
     now: u64,
 ) -> Result<MadeJournal, MakeFault>
     requires early { now < 2 ^ 48 }
+
+    // What is made is a journal of the new settings. Where the old disk is told, it holds what counts there and goes over, and all else is told.
     ensures made { IfOk result (λ made. RestsWith (Some (media_of made.disk)) (HasCalm new.now)) }
+    ensures from { IfOk result (λ made. (seen : ℕ → ℕ) → Sees (D.media from.old) seen
+        → IsMadeFrom old.now new.now now seen (Some (media_of made.disk)) made.text.items) }
     ensures extent { D.extent from.new ≡ D.extent from.old }
 {
     let list = match read_kept(alloc, from, old, new, now) {
@@ -97,6 +104,7 @@ fn read_kept<D: Disk>(
 ) -> Result<Vec<KeptEntry>, JournalFault>
     requires early { now < 2 ^ 48 }
     ensures each { IfOk result (λ list. AllByRecursion IsBounded list.items) }
+    ensures counting { IfOk result (λ list. (seen : ℕ → ℕ) → Sees (D.media disk.old) seen → HasCounting old.now new.now now seen list.items) }
     ensures extent { D.extent disk.new ≡ D.extent disk.old }
 {
     let keep = read_slots(alloc, disk, old, now)?;
@@ -105,7 +113,7 @@ fn read_kept<D: Disk>(
     Ok(list)
 }
 
-/// The slots of these entries.
+/// The slots of the entries that the view of the journal of a disk names at this second.
 fn read_slots<D: Disk>(
     alloc: Global,
     disk: &mut D,
@@ -113,6 +121,7 @@ fn read_slots<D: Disk>(
     now: u64,
 ) -> Result<SlotList, JournalFault>
     requires early { now < 2 ^ 48 }
+    ensures named { IfOk result (λ keep. (seen : ℕ → ℕ) → Sees (D.media disk.old) seen → HasNamed old.now now seen (D.media disk.new) keep.items) }
     ensures extent { D.extent disk.new ≡ D.extent disk.old }
 {
     let mut keep = SlotList::new(alloc, slots(old) as usize)?;
@@ -122,7 +131,7 @@ fn read_slots<D: Disk>(
     Ok(keep)
 }
 
-/// Begins a journal on a disk of zeros, and takes these entries into it. Answers what is to be told.
+/// Begins a journal on a disk of zeros, and takes of these entries into it what goes over. Answers what is to be told.
 fn fill(
     alloc: Global,
     disk: &mut MemoryDisk,
@@ -133,6 +142,8 @@ fn fill(
     requires blank { media_of disk.old ≡ blank [] }
     requires each { AllByRecursion IsBounded list.items }
     ensures made { OnOk result (RestsWith (Some (media_of disk.new)) (HasCalm new.now)) }
+    ensures filled { IfOk result (λ text. (filed : List Filed) (t : ℕ) → list.items ≡ map (judged old.now new.now) filed → Within 0 (map entry_of filed) t
+        → IsFilledWith old.now new.now t filed (Some (media_of disk.new)) text.items) }
 {
     let over = returns(alloc, list.as_slice())?;
     let mut text = Vec::new(alloc);

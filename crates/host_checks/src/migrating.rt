@@ -1,19 +1,22 @@
 //! How entries are taken into the journal of other settings.
 
-ghost use Rattle.std.specs.Prelude.{◌≡◌, ◌≤◌, ◌++◌, ◌∷◌, [], List, Some, None, length, true, IsTrue, OnOk};
+ghost use Rattle.std.specs.Prelude.{◌≡◌, ◌≤◌, ◌++◌, ◌∷◌, ℕ, [], List, map, length, Some, None, true, IsTrue, OnOk};
 ghost use Rattle.std.specs.List.{AllByRecursion};
 ghost use Rattle.dots_host.specs.Stored.{media_of};
 ghost use Rattle.dots_settings.specs.Settings.{SettingsValue};
 ghost use Rattle.dots_history.specs.declared.entry.Entry.{Entry};
 ghost use Rattle.dots_history.specs.Bounds.{within_bounds};
+ghost use Rattle.dots_history.specs.Histories.{Within};
+ghost use Rattle.dots_history.specs.Filed.{Filed, entry_of};
 ghost use Rattle.slot_store.specs.Layout.{needed_of};
 ghost use Rattle.dots_registry.specs.RegistryValues.{IsOf, time_of};
 ghost use Rattle.dots_registry.specs.RegistryValues as registry;
 ghost use Rattle.dots_registry.specs.Beginning.{joins_now};
 ghost use Rattle.dots_registry.specs.LedgerValues.{Represents, CanAccept, joins_at};
-ghost use Rattle.host_checks.specs.Migrating.{carried};
-ghost use Rattle.host_checks.specs.KeptEntries.{IsBounded};
-ghost use Rattle.host_checks.specs.Making.{HasTaken, HasTakenSome};
+ghost use Rattle.host_checks.specs.Migrating.{with_domain};
+ghost use Rattle.host_checks.specs.KeptEntries.{IsBounded, judged, flags_of};
+ghost use Rattle.host_checks.specs.Leavings.{cause_among};
+ghost use Rattle.host_checks.specs.Making.{HasTaken, HasTakenSome, HasTakenNext, HasTakenAll, offered, cause_offered};
 
 use crate::kept_entry::{KeptEntry, number_in};
 use crate::left_out::{LeftOut, add_left, cause_alone};
@@ -38,8 +41,14 @@ pub(crate) fn take_all(
     requires size { needed_of ledger.old.journal.slots ≤ disk.old.extent }
     requires some { HasTakenSome new.now ledger.old (Some (media_of disk.old)) }
     requires each { AllByRecursion IsBounded list.items }
-    requires over { length over.now ≡ length list.items }
+    requires over { over.now ≡ flags_of list.items }
+    requires long { length over.now ≡ length list.items }
     ensures some { OnOk result (HasTakenSome new.now ledger.new (Some (media_of disk.new))) }
+
+    // Of entries whose times don't fall, from that of the ledger on, those that join are taken, and each other one has its line.
+    ensures all { OnOk result ((before : List Entry) (filed : List Filed) (t : ℕ) → HasTaken new.now before ledger.old (Some (media_of disk.old))
+        → list.items ≡ map (judged old.now new.now) filed → Within (time_of ledger.old.registry) (map entry_of filed) t
+        → HasTakenAll old.now new.now before filed t ledger.new (Some (media_of disk.new)) text.old.items text.new.items) }
 {
     let mut place = 0;
     for kept in list {
@@ -64,6 +73,8 @@ fn take_one(
     requires some { HasTakenSome new.now ledger.old (Some (media_of disk.old)) }
     requires bounded { IsBounded kept }
     ensures some { OnOk result (HasTakenSome new.now ledger.new (Some (media_of disk.new))) }
+    ensures next { OnOk result ((before : List Entry) → HasTaken new.now before ledger.old (Some (media_of disk.old)) → time_of ledger.old.registry ≤ kept.entry.time
+        → HasTakenNext old.now new.now before kept over ledger.new (Some (media_of disk.new)) text.old.items text.new.items) }
     ensures size { needed_of ledger.new.journal.slots ≤ disk.new.extent }
 {
     let KeptEntry {
@@ -95,8 +106,12 @@ fn judge(
     requires bounded { IsTrue (within_bounds entry.old) }
     ensures represents { (settings : SettingsValue) (history few : List Entry) → Represents ledger.old settings history few → Represents ledger.new settings history few }
     ensures joins { result ≡ None → (history few : List Entry) → Represents ledger.old new.now history few → joins_at new.now (time_of ledger.new.registry) history entry.new ≡ true }
-    ensures carried { result ≡ None → carried old.now new.now entry.old ≡ Some entry.new }
+    ensures offered { result ≡ None → offered old.now new.now entry.old over ≡ Some entry.new }
+    ensures cause { time_of ledger.old.registry ≤ entry.old.time → (history few : List Entry) → Represents ledger.old new.now history few
+        → result ≡ cause_offered old.now new.now history entry.old over }
+    ensures same { with_domain entry.new entry.old.domain ≡ entry.old }
     ensures bounded { within_bounds entry.new ≡ within_bounds entry.old }
+    ensures early { time_of ledger.old.registry ≤ entry.old.time → time_of ledger.new.registry ≤ entry.old.time }
     ensures journal { ledger.new.journal ≡ ledger.old.journal }
 {
     if over {
@@ -115,6 +130,9 @@ fn cause_among(ledger: &mut Ledger, new: &Settings, entry: &Entry) -> Option<Lef
     requires bounded { IsTrue (within_bounds entry.now) }
     ensures represents { (settings : SettingsValue) (history few : List Entry) → Represents ledger.old settings history few → Represents ledger.new settings history few }
     ensures joins { result ≡ None → (history few : List Entry) → Represents ledger.old new.now history few → joins_at new.now (time_of ledger.new.registry) history entry.now ≡ true }
+    ensures cause { time_of ledger.old.registry ≤ entry.now.time → (history few : List Entry) → Represents ledger.old new.now history few
+        → result ≡ cause_among new.now history entry.now }
+    ensures early { time_of ledger.old.registry ≤ entry.now.time → time_of ledger.new.registry ≤ entry.now.time }
     ensures journal { ledger.new.journal ≡ ledger.old.journal }
 {
     if !is_of_settings(new, entry) {

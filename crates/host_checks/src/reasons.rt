@@ -9,7 +9,7 @@ pub fn reason_words(reason: Reason) -> &'static [u8]
 {
     match reason {
         Reason::Word =>
-            b"the first word of a line is journal, reserve, signal, http, peer, events, filters or filters-nft",
+            b"the first word of a line is journal, reserve, signal, http, peer, events, filters, filters-nft or figures",
         Reason::OneField => b"behind this word stands one field, with one space between two fields",
         Reason::TwoFields =>
             b"a peer line is: peer NUMBER ADDRESS, or: peer NUMBER ADDRESS:PORT, with one space between two fields",
@@ -21,7 +21,7 @@ pub fn reason_words(reason: Reason) -> &'static [u8]
             b"the address of a peer is as 192.0.2.1 or 2001:db8::1, or with a port as 192.0.2.1:4646 or [2001:db8::1]:4646",
         Reason::Count =>
             b"the number of events is below 10000000000000000000, without leading zeros",
-        Reason::Form => b"a line has one of the nine forms",
+        Reason::Form => b"a line has one of the ten forms",
         Reason::Twice => b"a line above says this already, or names its file",
         Reason::Many => b"four lines of this kind stand above",
         Reason::Wildcard =>

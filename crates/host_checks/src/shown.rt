@@ -1,12 +1,12 @@
 //! What tells the filters of one time from those of another.
 
-ghost use Rattle.std.specs.Prelude.{◌≡◌, List, IfOk};
-ghost use Rattle.std.specs.Bool.{OnTrue};
+ghost use Rattle.std.specs.Prelude.{◌≡◌, ◌++◌, List, map, IfOk, OnOk};
 ghost use Rattle.dots_history.specs.declared.entry.Entry.{Entry};
 ghost use Rattle.dots_registry.specs.RegistryValues.{Represents, IsOf, time_of};
-ghost use Rattle.dots_machine.specs.Machine.{afresh};
-ghost use Rattle.dots_machine.specs.Report.{report_of};
+ghost use Rattle.host_checks.specs.Ends.{scrub_value, acl_value};
+ghost use Rattle.host_checks.specs.Shown.{AreShown, end_at, row_ends, list_ends, same_filters};
 
+use crate::filtering::FilterForm;
 use crate::report::report_of;
 use crate::timed::{timed_lists, timed_rows};
 use dots_lists::{Bytes, List, NoMemory};
@@ -29,7 +29,7 @@ impl Shown {
     pub fn of(alloc: Global, settings: &Settings, registry: &Registry) -> Result<Self, NoMemory>
         requires { IsOf settings.now registry.now }
         ensures { IfOk result (λ shown. (entries : List Entry) → Represents registry.now entries
-            → shown.report ≡ report_of settings.now (afresh settings.now entries (time_of registry.now))) }
+            → AreShown settings.now (time_of registry.now) entries shown) }
     {
         let report = report_of(alloc, settings, registry)?;
         let table = registry.filters();
@@ -41,39 +41,42 @@ impl Shown {
         Ok(Shown { report, ends })
     }
 
-    /// Whether both have the same filters.
-    pub fn has_report_of(&self, other: &Shown) -> bool
-        ensures { OnTrue result (self.now.report ≡ other.now.report) }
+    /// Whether both have the same filters, in this form: a script says when they are over, and a report doesn't.
+    pub fn has_same(&self, form: FilterForm, other: &Shown) -> bool
+        ensures { result ≡ same_filters form self.now other.now }
     {
-        self.report.items() == other.report.items()
-    }
-
-    /// Whether both have the same filters, which are over at the same seconds.
-    pub fn is_same(&self, other: &Shown) -> bool
-        ensures { OnTrue result (self.now.report ≡ other.now.report) }
-    {
-        self.has_report_of(other) && self.ends.items() == other.ends.items()
+        let same = self.report.items() == other.report.items();
+        match form {
+            FilterForm::Report => same,
+            FilterForm::Script => same && self.ends.items() == other.ends.items(),
+        }
     }
 }
 
 /// Adds the second at which each row is over.
-fn add_row_ends(ends: &mut List<u64>, rows: &[TimedRow<'_>], now: u64) -> Result<(), NoMemory> {
+fn add_row_ends(ends: &mut List<u64>, rows: &[TimedRow<'_>], now: u64) -> Result<(), NoMemory>
+    ensures { OnOk result (ends.new ≡ ends.old ++ row_ends now (map scrub_value rows.now)) }
+{
     for row in rows {
-        ends.push(end_of(now, row.left))?;
+        ends.push(end_at(now, row.left))?;
     }
     Ok(())
 }
 
 /// Adds the second at which each list is over.
-fn add_list_ends(ends: &mut List<u64>, lists: &[TimedList<'_>], now: u64) -> Result<(), NoMemory> {
+fn add_list_ends(ends: &mut List<u64>, lists: &[TimedList<'_>], now: u64) -> Result<(), NoMemory>
+    ensures { OnOk result (ends.new ≡ ends.old ++ list_ends now (map acl_value lists.now)) }
+{
     for list in lists {
-        ends.push(end_of(now, list.left))?;
+        ends.push(end_at(now, list.left))?;
     }
     Ok(())
 }
 
 /// The second at which a filter is over that has so many seconds left.
-fn end_of(now: u64, left: Option<u32>) -> u64 {
+fn end_at(now: u64, left: Option<u32>) -> u64
+    ensures { result ≡ end_at now left }
+{
     match left {
         Some(left) => now.saturating_add(u64::from(left)),
         None => u64::MAX,

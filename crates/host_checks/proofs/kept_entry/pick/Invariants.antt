@@ -1,5 +1,4 @@
 use Rattle.std.proofs.Common.{◌≡◌, length, map}
-use Rattle.std.specs.List.{AllByRecursion}
 use Rattle.host_checks.specs.KeptEntries.{judged, picked}
 use Rattle.host_checks.proofs.kept_entry.pick.Given as goal
 
