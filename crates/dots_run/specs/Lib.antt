@@ -13,4 +13,7 @@ pub mod Load
 pub mod Clients
 pub mod Gateways
 pub mod Onlooking
+pub mod FilterFiles
+pub mod FigureFiles
+pub mod FilterLaws
 pub mod Migrate

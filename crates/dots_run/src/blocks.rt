@@ -9,14 +9,13 @@ ghost use Rattle.dots_run.specs.declared.topic_outcome.TopicOutcome as tolds;
 ghost use Rattle.dots_run.specs.Reporting.{outcome_status, ReportsTopic};
 ghost use Rattle.dots_run.specs.Topics.{is_check, is_check_script, topic_of};
 ghost use Rattle.dots_run.specs.Outcomes.{Outcome};
-ghost use Rattle.dots_run.specs.Blocks.{RunsInBlocks};
-ghost use Rattle.dots_run.specs.Onlooking.{SeesInBlocks};
+ghost use Rattle.dots_run.specs.Onlooking.{ShowsInBlocks};
 
 use crate::running::run_shown;
 use crate::words::is_served;
 use coap_block::BlockHost;
 use dots_host::{Host, Sink, Source};
-use dots_server::Onlooker;
+use dots_server::{Nobody, Onlooker};
 use std::alloc::Global;
 
 /// The exit status where no memory is found.
@@ -34,7 +33,7 @@ pub struct Ended<H> {
 /// Does all that the program does, as [`run_shown`], and replies leave in blocks: where a GET asks for a block of its reply, and where the
 /// payload of the reply has more than 1,024 bytes. A notification with such a payload leaves as its first block. With `replay` and `serve` a
 /// [`BlockHost`] is put around the host and taken away again. Status 4 where no memory is found for that: then nothing was read, taken or sent.
-pub fn run_blocks<H: Host, S: Source, K: Sink, W: Onlooker>(
+pub fn run_blocks<H: Host, S: Source, K: Sink, W: Onlooker<BlockHost<H>>>(
     alloc: Global,
     words: &[String],
     settings: &mut S,
@@ -42,15 +41,12 @@ pub fn run_blocks<H: Host, S: Source, K: Sink, W: Onlooker>(
     report: &mut K,
     onlooker: &mut W,
 ) -> Ended<H>
-    // What the run has done, of the acts as they were seen above, by the ending that its status is of; and how the host's acts stand to these.
-    ensures machine { topic_of (map string_bytes words.now) ≡ None → RunsInBlocks (map string_bytes words.now) result.status
+    // What the run has done, of the acts as they were seen above, by the ending that its status is of; how the host's acts stand to these; and what of
+    // it the onlooker saw.
+    ensures machine { topic_of (map string_bytes words.now) ≡ None → ShowsInBlocks (map string_bytes words.now) result.status
         (outside (S.left settings.old) (S.faults settings.old) (H.acts host) (H.Wire.faults host) (H.media host) (H.extent host) (H.Disk.faults host) (K.holds report.old) (K.faults report.old))
         (outside (S.left settings.new) (S.faults settings.new) (H.acts result.host) (H.Wire.faults result.host) (H.media result.host) (H.extent result.host) (H.Disk.faults result.host) (K.holds report.new) (K.faults report.new))
-        (result.host ≡ host) }
-    // What the onlooker saw: nothing, or at each tick of the run a server that represents the state after it, of the acts as they were seen above.
-    ensures seen { SeesInBlocks (outside (S.left settings.old) (S.faults settings.old) (H.acts host) (H.Wire.faults host) (H.media host) (H.extent host) (H.Disk.faults host) (K.holds report.old) (K.faults report.old))
-        (outside (S.left settings.new) (S.faults settings.new) (H.acts result.host) (H.Wire.faults result.host) (H.media result.host) (H.extent result.host) (H.Disk.faults result.host) (K.holds report.new) (K.faults report.new))
-        ((onlooker.new ≡ onlooker.old)) (W.sees onlooker.old onlooker.new) }
+        (result.host ≡ host) (onlooker.new ≡ onlooker.old) (W.sees onlooker.old onlooker.new) }
     // What is told without serving, as by `run`.
     ensures told { (topic : topics.Topic) → topic_of (map string_bytes words.now) ≡ Some topic
         → (end : tolds.TopicOutcome) × (result.status ≡ outcome_status end) × ReportsTopic topic end (S.left settings.old) (K.holds report.old) (K.holds report.new)
@@ -65,11 +61,12 @@ pub fn run_blocks<H: Host, S: Source, K: Sink, W: Onlooker>(
     ensures unread { is_served (map string_bytes words.now) ≡ false → is_check (map string_bytes words.now) ≡ false
         → is_check_script (map string_bytes words.now) ≡ false → settings.new ≡ settings.old }
     ensures unserved { is_served (map string_bytes words.now) ≡ false → result.host ≡ host }
+    ensures unshown { is_served (map string_bytes words.now) ≡ false → onlooker.new ≡ onlooker.old }
     ensures uncalled { 1 ≤ result.status → result.status ≤ 3 → result.host ≡ host }
 {
     if !is_served(words) {
         let mut host = host;
-        let status = run_shown(alloc, words, settings, &mut host, report, onlooker);
+        let status = run_shown(alloc, words, settings, &mut host, report, &mut Nobody);
         return Ended { status, host };
     }
     match BlockHost::new(alloc, host) {

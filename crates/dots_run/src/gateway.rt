@@ -10,6 +10,7 @@ ghost use Rattle.dots_run.specs.OverSockets.{IsOpenedFrom, outside_at};
 ghost use Rattle.dots_run.specs.Gateways.{PassesOver};
 
 use crate::sockets::{Served, open_host};
+use dots_edge::FileSocketHost;
 use dots_host::{Sink, Source, StdSink, StdSource};
 use gateway_command::{gateway_names, run_gateway_command};
 use std::alloc::Global;
@@ -29,7 +30,13 @@ pub fn gateway_sockets<
     K: Write + Drop,
     R: Files<File = File> + Net + Clock + Drop,
     Open: Fn(&str) -> Option<F> + Drop,
->(alloc: Global, words: &[String], opening: Open, rt: R, report: K) -> Served<F, K, R>
+>(
+    alloc: Global,
+    words: &[String],
+    opening: Open,
+    rt: R,
+    report: K,
+) -> Served<F, K, FileSocketHost<R>>
     requires opens { Open.IsAlwaysCallable opening }
     requires asks { is_gateway (map string_bytes words.now) ≡ true }
     // The two files are what opening the second and the third word gave. Where the host finds no memory, no settings were read and nothing was

@@ -22,7 +22,7 @@ ghost use Rattle.dots_server.specs.Onlooking.{RunIsSeen};
 ghost use Rattle.dots_server.specs.Running.{Came, IsFollowed};
 ghost use Rattle.dots_run.specs.Refusals.{Counts, Wrote, WritesStop, FailsOnly, EndsSized};
 ghost use Rattle.dots_run.specs.Outcomes.{IsTooSmall};
-ghost use Rattle.dots_run.specs.Onlooking.{Saw, SawRun};
+ghost use Rattle.dots_run.specs.Onlooking.{SawBy, SawRun, SawWhereKnown};
 
 use crate::words::{is_served, word_to_show};
 use coap_message::{Printed, lines_of};
@@ -35,9 +35,9 @@ use std::alloc::Global;
 
 /// Does what the words ask of the machine, and answers the exit status. With `replay SETTINGS` the settings are read
 /// from the source, what the host's disk holds is recovered, the events are taken from the host, and at End the filters that stand are written
-/// to the report; at each tick the server is shown to the onlooker. With `show HEX` the lines of a message are written to the report, or that of its fault, and neither source
-/// nor host is called. Other words are refused.
-pub fn run_machine<H: Host, S: Source, K: Sink, W: Onlooker>(
+/// to the report; at each tick the server is shown to the onlooker. With `show HEX` the lines of a message are written to the report, or that of its
+/// fault, and neither source nor host is called. Other words are refused.
+pub fn run_machine<H: Host, S: Source, K: Sink, W: Onlooker<H>>(
     alloc: Global,
     words: &[String],
     settings: &mut S,
@@ -45,18 +45,18 @@ pub fn run_machine<H: Host, S: Source, K: Sink, W: Onlooker>(
     report: &mut K,
     onlooker: &mut W,
 ) -> u8
-    // What the run has done, by the ending that its status is of. Where it didn't come to its host, that was not called.
+    // What the run has done, by the ending that its status is of. Where it didn't come to its host, that was not called. Where it served events, the
+    // onlooker saw at each tick a server that represents the state after it, and nothing else; and where it didn't, nothing.
     ensures machine { (ending : endings.Ending) × (result ≡ status_of ending)
         × Behaves ending (map string_bytes words.now)
         (outside (S.left settings.old) (S.faults settings.old) (H.acts host.old) (H.Wire.faults host.old) (H.media host.old) (H.extent host.old) (H.Disk.faults host.old) (K.holds report.old) (K.faults report.old))
         (outside (S.left settings.new) (S.faults settings.new) (H.acts host.new) (H.Wire.faults host.new) (H.media host.new) (H.extent host.new) (H.Disk.faults host.new) (K.holds report.new) (K.faults report.new))
-        × (has_hosted ending ≡ false → host.new ≡ host.old) }
-    // What the host says of its own calls.
-    // What the onlooker saw: nothing, or at each tick of the run a server that represents the state after it.
-    ensures seen { IsKnown (outside (S.left settings.old) (S.faults settings.old) (H.acts host.old) (H.Wire.faults host.old) (H.media host.old) (H.extent host.old) (H.Disk.faults host.old) (K.holds report.old) (K.faults report.old))
+        × (has_hosted ending ≡ false → host.new ≡ host.old)
+        × SawWhereKnown ending
+        (outside (S.left settings.old) (S.faults settings.old) (H.acts host.old) (H.Wire.faults host.old) (H.media host.old) (H.extent host.old) (H.Disk.faults host.old) (K.holds report.old) (K.faults report.old))
         (outside (S.left settings.new) (S.faults settings.new) (H.acts host.new) (H.Wire.faults host.new) (H.media host.new) (H.extent host.new) (H.Disk.faults host.new) (K.holds report.new) (K.faults report.new))
-        → (onlooker.new ≡ onlooker.old) ⊎ Saw (outside (S.left settings.old) (S.faults settings.old) (H.acts host.old) (H.Wire.faults host.old) (H.media host.old) (H.extent host.old) (H.Disk.faults host.old) (K.holds report.old) (K.faults report.old))
-        (outside (S.left settings.new) (S.faults settings.new) (H.acts host.new) (H.Wire.faults host.new) (H.media host.new) (H.extent host.new) (H.Disk.faults host.new) (K.holds report.new) (K.faults report.new)) (W.sees onlooker.old onlooker.new) }
+        (onlooker.new ≡ onlooker.old) (W.sees onlooker.old onlooker.new) }
+    // What the host says of its own calls.
     ensures leads { H.leads host.old host.new }
     // When the words are no command; which faults there must have been, and where none was.
     ensures words { (result ≡ 2) ↔ (is_command (map string_bytes words.now) ≡ false) }
@@ -64,8 +64,9 @@ pub fn run_machine<H: Host, S: Source, K: Sink, W: Onlooker>(
         ⊎ Rose (H.Wire.faults host.old) (H.Wire.faults host.new) }
     ensures heard { result ≢ 4 → result ≢ 5 → S.faults settings.new ≡ S.faults settings.old }
     ensures written { result ≡ 9 → Rose (K.faults report.old) (K.faults report.new) }
-    // What isn't called: neither settings nor host for other words, nor the host where nothing was served.
+    // What isn't called: neither settings, nor host, nor onlooker for other words, nor the host where nothing was served.
     ensures unread { is_served (map string_bytes words.now) ≡ false → (settings.new ≡ settings.old) × (host.new ≡ host.old) }
+    ensures unshown { is_served (map string_bytes words.now) ≡ false → onlooker.new ≡ onlooker.old }
     ensures uncalled { 1 ≤ result → result ≤ 3 → host.new ≡ host.old }
     // When there must have been a failure of the disk, and when there was none; and when the disk is too small, whatever it tells of its content.
     ensures disk { result ≡ 6 → Rose (H.Disk.faults host.old) (H.Disk.faults host.new) }
@@ -89,7 +90,7 @@ pub fn run_machine<H: Host, S: Source, K: Sink, W: Onlooker>(
 }
 
 /// How the run ends.
-fn ending_of<H: Host, S: Source, K: Sink, W: Onlooker>(
+fn ending_of<H: Host, S: Source, K: Sink, W: Onlooker<H>>(
     alloc: Global,
     words: &[String],
     settings: &mut S,
@@ -100,14 +101,15 @@ fn ending_of<H: Host, S: Source, K: Sink, W: Onlooker>(
     ensures machine { Behaves result (map string_bytes words.now)
         (outside (S.left settings.old) (S.faults settings.old) (H.acts host.old) (H.Wire.faults host.old) (H.media host.old) (H.extent host.old) (H.Disk.faults host.old) (K.holds report.old) (K.faults report.old))
         (outside (S.left settings.new) (S.faults settings.new) (H.acts host.new) (H.Wire.faults host.new) (H.media host.new) (H.extent host.new) (H.Disk.faults host.new) (K.holds report.new) (K.faults report.new)) }
-    ensures seen { IsKnown (outside (S.left settings.old) (S.faults settings.old) (H.acts host.old) (H.Wire.faults host.old) (H.media host.old) (H.extent host.old) (H.Disk.faults host.old) (K.holds report.old) (K.faults report.old))
+    ensures seen { SawWhereKnown result
+        (outside (S.left settings.old) (S.faults settings.old) (H.acts host.old) (H.Wire.faults host.old) (H.media host.old) (H.extent host.old) (H.Disk.faults host.old) (K.holds report.old) (K.faults report.old))
         (outside (S.left settings.new) (S.faults settings.new) (H.acts host.new) (H.Wire.faults host.new) (H.media host.new) (H.extent host.new) (H.Disk.faults host.new) (K.holds report.new) (K.faults report.new))
-        → (onlooker.new ≡ onlooker.old) ⊎ Saw (outside (S.left settings.old) (S.faults settings.old) (H.acts host.old) (H.Wire.faults host.old) (H.media host.old) (H.extent host.old) (H.Disk.faults host.old) (K.holds report.old) (K.faults report.old))
-        (outside (S.left settings.new) (S.faults settings.new) (H.acts host.new) (H.Wire.faults host.new) (H.media host.new) (H.extent host.new) (H.Disk.faults host.new) (K.holds report.new) (K.faults report.new)) (W.sees onlooker.old onlooker.new) }
+        (onlooker.new ≡ onlooker.old) (W.sees onlooker.old onlooker.new) }
     ensures leads { H.leads host.old host.new }
     ensures heard { (result ≡ ending.NoMemory) ⊎ (result ≡ ending.SettingsFailed) ⊎ (S.faults settings.new ≡ S.faults settings.old) }
     ensures counts { FailsOnly result (H.Disk.faults host.old) (H.Disk.faults host.new) }
     ensures untouched { is_served (map string_bytes words.now) ≡ false → (settings.new ≡ settings.old) × (host.new ≡ host.old) }
+    ensures unshown { is_served (map string_bytes words.now) ≡ false → onlooker.new ≡ onlooker.old }
     ensures uncalled { has_hosted result ≡ false → host.new ≡ host.old }
 {
     if let Some(word) = word_to_show(words) {
@@ -150,7 +152,7 @@ fn print_word<K: Sink>(alloc: Global, word: &[u8], report: &mut K) -> Result<Pri
 }
 
 /// Recovers what the disk holds, and serves the events of the host from there.
-fn host_events<H: Host, K: Sink, W: Onlooker>(
+fn host_events<H: Host, K: Sink, W: Onlooker<H>>(
     alloc: Global,
     settings: Settings,
     host: &mut H,
@@ -161,9 +163,10 @@ fn host_events<H: Host, K: Sink, W: Onlooker>(
     ensures machine { (left left_now : Option (List ℕ)) (faults faults_now : ℕ) → ServesTo result settings
         (outside left faults (H.acts host.old) (H.Wire.faults host.old) (H.media host.old) (H.extent host.old) (H.Disk.faults host.old) (K.holds report.old) (K.faults report.old))
         (outside left_now faults_now (H.acts host.new) (H.Wire.faults host.new) (H.media host.new) (H.extent host.new) (H.Disk.faults host.new) (K.holds report.new) (K.faults report.new)) }
-    ensures seen { (left left_now : Option (List ℕ)) (faults faults_now : ℕ) → IsKnown (outside left faults (H.acts host.old) (H.Wire.faults host.old) (H.media host.old) (H.extent host.old) (H.Disk.faults host.old) (K.holds report.old) (K.faults report.old))
+    ensures seen { (left left_now : Option (List ℕ)) (faults faults_now : ℕ) → SawBy result (λ how. IsKnown
+        (outside left faults (H.acts host.old) (H.Wire.faults host.old) (H.media host.old) (H.extent host.old) (H.Disk.faults host.old) (K.holds report.old) (K.faults report.old))
         (outside left_now faults_now (H.acts host.new) (H.Wire.faults host.new) (H.media host.new) (H.extent host.new) (H.Disk.faults host.new) (K.holds report.new) (K.faults report.new))
-        → (onlooker.new ≡ onlooker.old) ⊎ SawRun settings (H.acts host.old) (H.acts host.new) (W.sees onlooker.old onlooker.new) }
+        → SawRun settings (H.acts host.old) (H.acts host.new) how (W.sees onlooker.old onlooker.new)) (onlooker.new ≡ onlooker.old) }
     ensures counts { FailsOnly result (H.Disk.faults host.old) (H.Disk.faults host.new) }
     ensures hosted { has_hosted result ≡ true }
     ensures leads { H.leads host.old host.new }
@@ -178,7 +181,7 @@ fn host_events<H: Host, K: Sink, W: Onlooker>(
 }
 
 /// Serves the events of the host, and reports the filters that stand at End.
-fn serve<H: Host, K: Sink, W: Onlooker>(
+fn serve<H: Host, K: Sink, W: Onlooker<H>>(
     server: Server,
     host: &mut H,
     report: &mut K,
@@ -194,8 +197,9 @@ fn serve<H: Host, K: Sink, W: Onlooker>(
         → Counts now (K.holds report.new) (K.faults report.new) (H.Wire.faults host.new) (H.Disk.faults host.new) → Wrote result how settings end.last before now) }
     ensures seen { (settings : SettingsValue) (start : State) (stored : List Entry) → RestartsWith server settings start stored
         → IsFollowed (RestsWith (H.media host.old) (journal.Represents server.journal settings stored)) (H.acts host.old) (H.acts host.new)
-        → (how : Stop) × (trace : List State) × (end : Owing State) × (seen : List ServerValue) × W.sees onlooker.old onlooker.new seen
-        × Added (H.acts host.old) (H.acts host.new) (RunIsSeen settings start trace end how seen) }
+        → SawBy result (λ how. (trace : List State) × (end : Owing State) × (seen : List ServerValue) × W.sees onlooker.old onlooker.new seen
+        × Added (H.acts host.old) (H.acts host.new) (RunIsSeen settings start trace end how seen)) ⊥ }
+    ensures served { SawBy result (λ _. ⊤) ⊥ }
     ensures adds { Added (H.acts host.old) (H.acts host.new) (λ _. ⊤) }
     // For every host, it is said of some state that has entries of the settings alone.
     ensures any { (how : Stop) × (state : State) × (list_all (is_own server.settings) state.history ≡ true)

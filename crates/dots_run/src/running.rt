@@ -4,13 +4,13 @@ ghost use Rattle.std.specs.Prelude.{◌≡◌, ◌≢◌, ◌≤◌, ◌⊎◌, 
 ghost use Rattle.dots_host.specs.Causes.{Rose};
 ghost use Rattle.dots_machine.specs.declared.ending.Ending as endings;
 ghost use Rattle.dots_machine.specs.Commands.{is_served, is_show, second_of};
-ghost use Rattle.dots_machine.specs.Endings.{status_of, has_hosted, Behaves, GivesFault, IsReady, IsReadable, IsKnown};
+ghost use Rattle.dots_machine.specs.Endings.{status_of, has_hosted, Behaves, GivesFault, IsReady, IsReadable};
 ghost use Rattle.dots_machine.specs.Outside.{outside};
 ghost use Rattle.dots_run.specs.declared.topic.Topic as topics;
 ghost use Rattle.dots_run.specs.declared.topic_outcome.TopicOutcome as tolds;
 ghost use Rattle.dots_run.specs.Reporting.{outcome_status, ReportsTopic, IsSound, IsAtFault};
 ghost use Rattle.dots_run.specs.Outcomes.{IsTooSmall};
-ghost use Rattle.dots_run.specs.Onlooking.{Saw};
+ghost use Rattle.dots_run.specs.Onlooking.{SawWhereKnown};
 ghost use Rattle.dots_run.specs.Topics.{is_check, is_check_script, topic_of, is_known};
 
 use crate::outcome::run_machine;
@@ -86,7 +86,7 @@ pub fn run<H: Host, S: Source, K: Sink>(
 }
 
 /// Does what [`run`] does, and shows the server to an onlooker at each tick.
-pub fn run_shown<H: Host, S: Source, K: Sink, W: Onlooker>(
+pub fn run_shown<H: Host, S: Source, K: Sink, W: Onlooker<H>>(
     alloc: Global,
     words: &[String],
     settings: &mut S,
@@ -94,17 +94,17 @@ pub fn run_shown<H: Host, S: Source, K: Sink, W: Onlooker>(
     report: &mut K,
     onlooker: &mut W,
 ) -> u8
-    // What the run has done, by the ending that its status is of. Where it didn't come to its host, that was not called.
+    // What the run has done, by the ending that its status is of. Where it didn't come to its host, that was not called. Where it served events, the
+    // onlooker saw at each tick a server that represents the state after it, and nothing else; and where it didn't, nothing.
     ensures machine { topic_of (map string_bytes words.now) ≡ None → (ending : endings.Ending) × (result ≡ status_of ending)
         × Behaves ending (map string_bytes words.now)
         (outside (S.left settings.old) (S.faults settings.old) (H.acts host.old) (H.Wire.faults host.old) (H.media host.old) (H.extent host.old) (H.Disk.faults host.old) (K.holds report.old) (K.faults report.old))
         (outside (S.left settings.new) (S.faults settings.new) (H.acts host.new) (H.Wire.faults host.new) (H.media host.new) (H.extent host.new) (H.Disk.faults host.new) (K.holds report.new) (K.faults report.new))
-        × (has_hosted ending ≡ false → host.new ≡ host.old) }
-    // What the onlooker saw: nothing, or at each tick of the run a server that represents the state after it.
-    ensures seen { IsKnown (outside (S.left settings.old) (S.faults settings.old) (H.acts host.old) (H.Wire.faults host.old) (H.media host.old) (H.extent host.old) (H.Disk.faults host.old) (K.holds report.old) (K.faults report.old))
+        × (has_hosted ending ≡ false → host.new ≡ host.old)
+        × SawWhereKnown ending
+        (outside (S.left settings.old) (S.faults settings.old) (H.acts host.old) (H.Wire.faults host.old) (H.media host.old) (H.extent host.old) (H.Disk.faults host.old) (K.holds report.old) (K.faults report.old))
         (outside (S.left settings.new) (S.faults settings.new) (H.acts host.new) (H.Wire.faults host.new) (H.media host.new) (H.extent host.new) (H.Disk.faults host.new) (K.holds report.new) (K.faults report.new))
-        → (onlooker.new ≡ onlooker.old) ⊎ Saw (outside (S.left settings.old) (S.faults settings.old) (H.acts host.old) (H.Wire.faults host.old) (H.media host.old) (H.extent host.old) (H.Disk.faults host.old) (K.holds report.old) (K.faults report.old))
-        (outside (S.left settings.new) (S.faults settings.new) (H.acts host.new) (H.Wire.faults host.new) (H.media host.new) (H.extent host.new) (H.Disk.faults host.new) (K.holds report.new) (K.faults report.new)) (W.sees onlooker.old onlooker.new) }
+        (onlooker.new ≡ onlooker.old) (W.sees onlooker.old onlooker.new) }
     // What is told without serving, where the words ask for that: what was found in the source, and what of it was written.
     ensures told { (topic : topics.Topic) → topic_of (map string_bytes words.now) ≡ Some topic
         → (end : tolds.TopicOutcome) × (result ≡ outcome_status end) × ReportsTopic topic end (S.left settings.old) (K.holds report.old) (K.holds report.new)
@@ -121,6 +121,7 @@ pub fn run_shown<H: Host, S: Source, K: Sink, W: Onlooker>(
     ensures unread { is_served (map string_bytes words.now) ≡ false → is_check (map string_bytes words.now) ≡ false
         → is_check_script (map string_bytes words.now) ≡ false → settings.new ≡ settings.old }
     ensures unserved { is_served (map string_bytes words.now) ≡ false → host.new ≡ host.old }
+    ensures unshown { is_served (map string_bytes words.now) ≡ false → onlooker.new ≡ onlooker.old }
     ensures uncalled { 1 ≤ result → result ≤ 3 → host.new ≡ host.old }
     // When there must have been a failure of the disk, and when there was none; and when the disk is too small, whatever it tells of its content.
     ensures disk { result ≡ 6 → Rose (H.Disk.faults host.old) (H.Disk.faults host.new) }

@@ -1,14 +1,13 @@
-use Rattle.std.proofs.Common.{◌≡◌, ◌∙◌, inl, map, string_bytes, refl, sym, ap, subst}
+use Rattle.std.proofs.Common.{◌≡◌, ◌∙◌, map, string_bytes, refl, sym, ap, subst}
 use Rattle.std.proofs.lemmas.Bool.{true≢false}
 use Rattle.coap_block.specs.Around.{Wrapped, seen_above, GoesOnSeen}
 use Rattle.dots_machine.specs.Outside.{Outside, outside}
 use Rattle.dots_machine.specs.Endings.{Behaves}
 use Rattle.dots_run.specs.Outcomes.{Outcome}
-use Rattle.dots_run.specs.Blocks.{RunsInBlocks}
-use Rattle.dots_run.specs.Onlooking.{SeesInBlocks}
-use Rattle.dots_run.proofs.Looks.{SawOn, saw_still, saw_blocks}
+use Rattle.dots_run.specs.Onlooking.{SawWhereKnown, ShowsInBlocks}
+use Rattle.dots_run.proofs.Looks.{saw_nothing}
 use Rattle.dots_run.proofs.Asking.{served_no_topic, no_topic}
-use Rattle.dots_run.proofs.InBlocks.{over_blocks, over_none, lacks_memory, lacks_outcome}
+use Rattle.dots_run.proofs.InBlocks.{shows_blocks, shows_none, lacks_memory, lacks_outcome}
 use Rattle.dots_run.proofs.blocks.run_blocks.Goals as goal
 
 -- ---- the host itself
@@ -20,19 +19,9 @@ returns-then-not-is_served g c =
     let none = said.unserved (sym c.is_served.ensures ∙ c.if-not-is_served.true) in
     record {
       machine = λ is.
-          let (how, status_is, behaves, idle) = said.machine is in
-          over_none words c.run_shown-status.result _ _ _ (ap g.H.Wire.acts none) how status_is behaves none;
-      seen = saw_still (record {
-        left = g.S.Source.left c.args.settings.now;
-        source_faults = g.S.Source.faults c.args.settings.now;
-        acts = g.H.Wire.acts c.args.host;
-        wire_faults = g.H.Wire.faults c.args.host;
-        media = g.H.Disk.media c.args.host;
-        extent = g.H.Disk.extent c.args.host;
-        disk_faults = g.H.Disk.faults c.args.host;
-        written = g.K.Sink.holds c.args.report.now;
-        report_faults = g.K.Sink.faults c.args.report.now;
-      }) _ (ap g.H.Wire.acts none) _ _ said.seen;
+          let (how, status_is, behaves, idle, saw) = said.machine is in
+          shows_none words c.run_shown-status.result _ _ _ _ _ (ap g.H.Wire.acts none) how status_is behaves none
+          (saw_nothing how words _ _ (sym c.is_served.ensures ∙ c.if-not-is_served.true) behaves (λ stopped. _) refl);
       told = said.told;
       leads = said.leads;
       outcome = record {
@@ -52,6 +41,7 @@ returns-then-not-is_served g c =
       };
       unread = said.unread;
       unserved = said.unserved;
+      unshown = λ none. refl;
       uncalled = said.uncalled;
     }
 
@@ -90,22 +80,22 @@ returns-in-Ok g c =
     } in
     record {
       machine = λ is.
-          let (how, status_is, behaves, idle) = said.machine is in
+          let (how, status_is, behaves, idle, saw) = said.machine is in
+          let unseen = c.run_shown-status-in-Ok.new.onlooker ≡ c.args.onlooker.now in
+          let sees = g.W.Onlooker.sees c.args.onlooker.now c.run_shown-status-in-Ok.new.onlooker in
+          let above : (w : Wrapped _) → Outside = λ w. record (before w.inner) { acts = seen_above (acts w.inner) w.log } in
+          let above_now : Outside = record (after new.inner) { acts = seen_above (acts new.inner) new.log } in
           let goes = subst (λ (w : Wrapped _). GoesOnSeen (acts w.inner) w.log w.blocks (acts new.inner) new.log new.blocks) first said.leads.1 in
-          let did = subst (λ (w : Wrapped _). Behaves how words (record (before w.inner) { acts = seen_above (acts w.inner) w.log }) (record (after new.inner) { acts = seen_above (acts new.inner) new.log })) first behaves in
-          subst (λ h. RunsInBlocks words status (before c.args.host) (after h) (h ≡ c.args.host)) taken
-          (over_blocks words status (before c.args.host) (after new.inner) new.log new.blocks (new.inner ≡ c.args.host) goes how status_is did (λ none. stays (idle none)));
-      seen =
-          let goes = subst (λ (w : Wrapped _). GoesOnSeen (acts w.inner) w.log w.blocks (acts new.inner) new.log new.blocks) first said.leads.1 in
-          let saw = subst (λ (w : Wrapped _). SawOn (record (before w.inner) { acts = seen_above (acts w.inner) w.log }) (record (after new.inner) { acts = seen_above (acts new.inner) new.log })
-          (c.run_shown-status-in-Ok.new.onlooker ≡ c.args.onlooker.now) (g.W.Onlooker.sees c.args.onlooker.now c.run_shown-status-in-Ok.new.onlooker)) first said.seen in
-          subst (λ h. SeesInBlocks (before c.args.host) (after h) (c.run_shown-status-in-Ok.new.onlooker ≡ c.args.onlooker.now) (g.W.Onlooker.sees c.args.onlooker.now c.run_shown-status-in-Ok.new.onlooker)) taken
-          (saw_blocks (before c.args.host) (after new.inner) new.log new.blocks _ _ goes saw);
+          let did = subst (λ (w : Wrapped _). Behaves how words (above w) above_now) first behaves in
+          let shown = subst (λ (w : Wrapped _). SawWhereKnown how (above w) above_now unseen sees) first saw in
+          subst (λ h. ShowsInBlocks words status (before c.args.host) (after h) (h ≡ c.args.host) unseen sees) taken
+          (shows_blocks words status (before c.args.host) (after new.inner) new.log new.blocks (new.inner ≡ c.args.host) unseen sees goes how status_is did (λ none. stays (idle none)) shown);
       told = λ topic is. no_topic words topic _ (served_no_topic words served) is;
       leads = subst (λ h. g.H.Wire.leads c.args.host h) taken (subst (λ (w : Wrapped _). g.H.Wire.leads w.inner new.inner) first said.leads.0);
       outcome = subst (λ h. Outcome words status (before c.args.host) (after h)) taken (subst (λ (w : Wrapped _). Outcome words status (before w.inner) (after new.inner)) first outcome);
       unread = λ none. absurd (true≢false (sym served ∙ none));
       unserved = λ none. absurd (true≢false (sym served ∙ none));
+      unshown = λ none. absurd (true≢false (sym served ∙ none));
       uncalled = λ one three. subst (λ h. h ≡ c.args.host) taken (stays (said.uncalled one three));
     }
 
@@ -119,13 +109,14 @@ returns-in-Err g c =
     let before : (h : _) → Outside =
     λ h. outside (g.S.Source.left c.args.settings.now) (g.S.Source.faults c.args.settings.now) (g.H.Wire.acts h) (g.H.Wire.faults h) (g.H.Disk.media h) (g.H.Disk.extent h) (g.H.Disk.faults h) (g.K.Sink.holds c.args.report.now) (g.K.Sink.faults c.args.report.now) in
     record {
-      seen = subst (λ h. SeesInBlocks (before c.args.host) (before h) (c.args.onlooker.now ≡ c.args.onlooker.now) (g.W.Onlooker.sees c.args.onlooker.now c.args.onlooker.now)) same
-          (saw_still (before c.args.host) (before c.args.host) refl _ _ (λ known. inl refl));
-      machine = λ is. subst (λ h. RunsInBlocks words 4 (before c.args.host) (before h) (h ≡ c.args.host)) same (lacks_memory words (before c.args.host) (c.args.host ≡ c.args.host) served refl);
+      machine = λ is.
+          subst (λ h. ShowsInBlocks words 4 (before c.args.host) (before h) (h ≡ c.args.host) (c.args.onlooker.now ≡ c.args.onlooker.now) (g.W.Onlooker.sees c.args.onlooker.now c.args.onlooker.now)) same
+          (lacks_memory words (before c.args.host) (c.args.host ≡ c.args.host) _ _ served refl refl);
       told = λ topic is. no_topic words topic _ (served_no_topic words served) is;
       leads = subst (λ h. g.H.Wire.leads c.args.host h) same (g.met.H.Wire.leads_same c.args.host);
       outcome = subst (λ h. Outcome words 4 (before c.args.host) (before h)) same (lacks_outcome words (before c.args.host) served);
       unread = λ none check script. refl;
       unserved = λ none. sym same;
+      unshown = λ none. refl;
       uncalled = λ one three. sym same;
     }

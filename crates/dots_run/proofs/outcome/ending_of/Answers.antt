@@ -36,7 +36,7 @@ returns-in-Ok-read_settings-clause-machine g c =
     c.in-Ok-read_settings.ensures.ok (c.host_events.ensures.machine before.left now.left before.source_faults now.source_faults)
 
 pub returns-in-Ok-read_settings-clause-seen : goal.returns-in-Ok-read_settings-clause-seen
-returns-in-Ok-read_settings-clause-seen g c = λ known.
+returns-in-Ok-read_settings-clause-seen g c =
     let source = c.args.settings.now in
     let read = c.read_settings.new.source in
     let host = c.args.host.now in
@@ -63,5 +63,5 @@ returns-in-Ok-read_settings-clause-seen g c = λ known.
       written = g.K.Sink.holds c.host_events.new.report;
       report_faults = g.K.Sink.faults c.host_events.new.report;
     } in
-    saw_given before now c.in-Ok-read_settings.settings (c.host_events.new.onlooker ≡ c.args.onlooker.now) (g.W.Onlooker.sees c.args.onlooker.now c.host_events.new.onlooker)
-    c.in-Ok-read_settings.ensures.ok (c.host_events.ensures.seen before.left now.left before.source_faults now.source_faults known)
+    saw_given c.host_events.result before now c.in-Ok-read_settings.settings (c.host_events.new.onlooker ≡ c.args.onlooker.now) (g.W.Onlooker.sees c.args.onlooker.now c.host_events.new.onlooker)
+    c.in-Ok-read_settings.ensures.ok (c.host_events.ensures.seen before.left now.left before.source_faults now.source_faults)

@@ -1,5 +1,5 @@
 use Rattle.std.specs.List.{list_all}
-use Rattle.std.proofs.Common.{◌≡◌, true, inl, inr, refl, sym, subst}
+use Rattle.std.proofs.Common.{◌≡◌, true, refl, sym, subst}
 use Rattle.dots_host.specs.Becoming.{RestsWith}
 use Rattle.slot_journal.specs.DiskEntries as journal
 use Rattle.dots_machine.specs.Machine.{begun_from}
@@ -7,7 +7,9 @@ use Rattle.dots_machine.specs.Outside.{Outside}
 use Rattle.dots_history.specs.Calm.{is_own}
 use Rattle.dots_server.specs.ServerValues.{ServerValue, RestartsWith}
 use Rattle.dots_run.specs.Refusals.{Counts, Wrote, FailsOnly}
-use Rattle.dots_run.proofs.Looks.{saw_from}
+use Rattle.dots_machine.specs.Endings.{IsKnown}
+use Rattle.dots_run.specs.Onlooking.{SawRun}
+use Rattle.dots_run.proofs.Looks.{saw_from, saw_served}
 use Rattle.dots_run.proofs.Serving.{begun_zero, followed_by, sees_of, serves_to, unrecovered_counts}
 use Rattle.dots_run.proofs.outcome.host_events.Goals as goal
 
@@ -75,7 +77,7 @@ returns-in-Ok-clause-machine g c = λ left left_now faults faults_now.
     ))
 
 pub returns-in-Ok-clause-seen : goal.returns-in-Ok-clause-seen
-returns-in-Ok-clause-seen g c = λ left left_now faults faults_now known.
+returns-in-Ok-clause-seen g c = λ left left_now faults faults_now.
     let old = c.args.host.now in
     let mid = c.begin.new.host in
     let new = c.serve.new.host in
@@ -117,13 +119,14 @@ returns-in-Ok-clause-seen g c = λ left left_now faults faults_now known.
       report_faults = g.K.Sink.faults written;
     } in
     let Rests : Type 0 = RestsWith (g.H.Disk.media mid) (journal.Represents c.in-Ok.server.journal c.args.settings stored) in
-    let saw = c.serve.ensures.seen c.args.settings (begun_from c.args.settings stored) stored
+    saw_served c.serve.result (IsKnown before after) _ (λ how. SawRun c.args.settings (g.H.Wire.acts old) (g.H.Wire.acts new) how (g.W.Onlooker.sees c.args.onlooker.now c.serve.new.onlooker)) _ c.serve.ensures.served
+    (λ known. c.serve.ensures.seen c.args.settings (begun_from c.args.settings stored) stored
     (subst (λ state. RestartsWith c.in-Ok.server c.args.settings state stored) (begun_zero c.args.settings stored) kept)
-    (followed_by Rests before after (g.H.Wire.acts mid) keeps.0 c.serve.ensures.adds (λ seen sees. (disk seen sees).1) known) in
-    inr (saw_from c.args.settings stored (g.H.Wire.acts old) (g.H.Wire.acts mid) (g.H.Wire.acts new) calm keeps.0 (g.W.Onlooker.sees c.args.onlooker.now c.serve.new.onlooker) saw)
+    (followed_by Rests before after (g.H.Wire.acts mid) keeps.0 c.serve.ensures.adds (λ seen sees. (disk seen sees).1) known))
+    (saw_from c.args.settings stored (g.H.Wire.acts old) (g.H.Wire.acts mid) (g.H.Wire.acts new) calm keeps.0 (g.W.Onlooker.sees c.args.onlooker.now c.serve.new.onlooker))
 
 pub returns-in-Err-clause-seen : goal.returns-in-Err-clause-seen
-returns-in-Err-clause-seen g c = λ left left_now faults faults_now known. inl refl
+returns-in-Err-clause-seen g c = λ left left_now faults faults_now. refl
 
 pub returns-in-Ok-clause-counts : goal.returns-in-Ok-clause-counts
 returns-in-Ok-clause-counts g c = subst (λ count. FailsOnly c.serve.result count (g.H.Disk.faults c.serve.new.host)) c.in-Ok.ensures.cause c.serve.ensures.counts

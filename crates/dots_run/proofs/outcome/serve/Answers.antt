@@ -22,7 +22,7 @@ returns-in-Ok-write_report-clause-came g c = λ settings start stored kept follo
 
 pub returns-in-Ok-write_report-clause-seen : goal.returns-in-Ok-write_report-clause-seen
 returns-in-Ok-write_report-clause-seen g c = λ settings start stored kept follows.
-    let (trace, end, seen, has, told) = rw c.in-Ok.is at (c.take_events.ensures.seen settings start stored kept follows) in (stop.Ended, trace, end, seen, has, told)
+    let (trace, end, seen, has, told) = rw c.in-Ok.is at (c.take_events.ensures.seen settings start stored kept follows) in (trace, end, seen, has, told)
 
 pub returns-in-Ok-write_report-clause-any : goal.returns-in-Ok-write_report-clause-any
 returns-in-Ok-write_report-clause-any g c =
@@ -52,7 +52,7 @@ returns-in-Err-write_report-clause-came g c = λ settings start stored kept foll
 
 pub returns-in-Err-write_report-clause-seen : goal.returns-in-Err-write_report-clause-seen
 returns-in-Err-write_report-clause-seen g c = λ settings start stored kept follows.
-    let (trace, end, seen, has, told) = rw c.in-Ok.is at (c.take_events.ensures.seen settings start stored kept follows) in (stop.Ended, trace, end, seen, has, told)
+    let (trace, end, seen, has, told) = rw c.in-Ok.is at (c.take_events.ensures.seen settings start stored kept follows) in (trace, end, seen, has, told)
 
 pub returns-in-Err-write_report-clause-any : goal.returns-in-Err-write_report-clause-any
 returns-in-Err-write_report-clause-any g c =
@@ -82,7 +82,7 @@ returns-in-Err-clause-came g c = λ settings start stored kept follows.
 
 pub returns-in-Err-clause-seen : goal.returns-in-Err-clause-seen
 returns-in-Err-clause-seen g c = λ settings start stored kept follows.
-    let (trace, end, seen, has, told) = rw c.in-Err.is at (c.take_events.ensures.seen settings start stored kept follows) in (c.in-Err.how, trace, end, seen, has, told)
+    let (trace, end, seen, has, told) = rw c.in-Err.is at (c.take_events.ensures.seen settings start stored kept follows) in (trace, end, seen, has, told)
 
 pub returns-in-Err-clause-any : goal.returns-in-Err-clause-any
 returns-in-Err-clause-any g c = (

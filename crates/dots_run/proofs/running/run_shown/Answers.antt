@@ -9,9 +9,6 @@ use Rattle.dots_run.proofs.running.run_shown.Goals as goal
 pub returns-in-Some-clause-machine : goal.returns-in-Some-clause-machine
 returns-in-Some-clause-machine g c = λ none. no_topic (map string_bytes c.args.words.now) c.in-Some.topic _ none (sym c.in-Some.ensures)
 
-pub returns-in-Some-clause-seen : goal.returns-in-Some-clause-seen
-returns-in-Some-clause-seen g c = λ known. inl refl
-
 pub returns-in-Some-clause-told : goal.returns-in-Some-clause-told
 returns-in-Some-clause-told g c = λ topic is.
     let same = one_topic (map string_bytes c.args.words.now) c.in-Some.topic topic (sym c.in-Some.ensures) is in (

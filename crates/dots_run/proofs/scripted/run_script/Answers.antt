@@ -35,7 +35,7 @@ returns-in-Ok-clause-runs g c =
     record {
       machine = λ none.
           joins_blocks words status empty after acts (host ≡ c.in-Ok.host) refl refl refl start (outer left faults holds host) (said.leads start c.in-Ok.ensures.accounts) stays
-          (subst (λ h. RunsInBlocks words status (before h) after (host ≡ c.in-Ok.host)) first (said.machine none));
+          (subst (λ h. RunsInBlocks words status (before h) after (host ≡ c.in-Ok.host)) first (said.machine none).runs);
       told = λ topic is.
           let (how, status_is, reported) = said.told topic is in
           let kept = said.unserved (not_served words topic is) in
