@@ -39,6 +39,8 @@ mod events;
 #[cfg(test)]
 mod faults;
 #[cfg(test)]
+mod filter_file_rows;
+#[cfg(test)]
 mod first_format;
 #[cfg(test)]
 mod hosts;

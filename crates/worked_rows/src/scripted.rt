@@ -11,10 +11,10 @@ use dots_run::{Ended, ScriptHost, run_blocks};
 use dots_server::Nobody;
 use std::alloc::Global;
 
-type Scripted = ScriptHost<MemorySource, MemorySink>;
+pub type Scripted = ScriptHost<MemorySource, MemorySink>;
 
 /// A host over a script, whose sends go to a list.
-fn host_of(alloc: Global, script: &str) -> Result<Scripted, NoMemory> {
+pub fn host_of(alloc: Global, script: &str) -> Result<Scripted, NoMemory> {
     let source = MemorySource::new(alloc, script.as_bytes())?;
     ScriptHost::new(alloc, source, MemorySink::new(alloc))
 }

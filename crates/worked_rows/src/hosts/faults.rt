@@ -7,7 +7,7 @@ use std::alloc::Global;
 /// Rows stand apart by `==`. The first line of each is how many lines say something, or the fault and its line, and the others are the
 /// host file.
 const FILES: &str = "\
-said 15
+said 16
 # all of them
 journal /var/lib/dots/journal
 reserve 1073741824
@@ -25,6 +25,7 @@ peer 7 192.0.2.2:1
 events 9999999999999999999
 filters /var/lib/dots/filters
 filters-nft /var/lib/dots/filters.nft
+figures /var/lib/node/dots.prom
 ==
 line 1
 ?
@@ -111,6 +112,29 @@ filters-nft a b
 line 2
 filters -
 filters-nft
+==
+line 1
+figures
+==
+line 1
+figures a b
+==
+twice 2
+figures a
+figures b
+==
+twice 2
+figures a
+filters-nft a
+==
+twice 2
+figures a
+journal a.new
+==
+twice 3
+filters a
+events 0
+figures a
 ==
 line 1
 filter a

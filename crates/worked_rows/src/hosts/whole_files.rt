@@ -1,6 +1,6 @@
 //! A file that is replaced as a whole, in the folder that it is run in.
 
-use dots_edge::write_whole_file;
+use dots_edge::WholeFile;
 use std::fs;
 use std::fs::File;
 use std::io::Read;
@@ -11,8 +11,16 @@ const PATH: &str = "worked_rows_whole";
 /// Where a new file is made.
 const BESIDE: &str = "worked_rows_whole.new";
 
+/// Whether a file of this text is put at the path.
+fn writes_at(rt: &HostRuntime, path: &str, text: &str) -> bool {
+    match WholeFile::at(rt.alloc(), path) {
+        Ok(mut file) => file.put(rt.alloc(), rt, text.as_bytes()).is_ok(),
+        Err(_) => false,
+    }
+}
+
 fn writes(rt: &HostRuntime, text: &str) -> bool {
-    write_whole_file(rt.alloc(), rt, PATH, text.as_bytes()).is_ok()
+    writes_at(rt, PATH, text)
 }
 
 /// Whether the file has this text.
@@ -66,8 +74,7 @@ fn a_file_is_replaced_as_a_whole(rt: HostRuntime) -> Result<(), Fail> {
     assert!(rt; is_replaced(&rt, ""));
     assert!(rt; is_no_link_followed(&rt, "third", "fourth"));
     assert!(rt; is_kept(&rt, "third", "fifth"));
-    let nowhere = write_whole_file(rt.alloc(), &rt, "no/such/folder/file", b"text");
-    assert!(rt; nowhere.is_err());
+    assert!(rt; !writes_at(&rt, "no/such/folder/file", "text"));
     fs::remove_file(&rt, PATH)?;
     Ok(())
 }
